@@ -1,0 +1,34 @@
+//! What the measurements of bench/ need in Rattle: bare work of the libraries, to compare with, and
+//! work of this repository's crates at any size. A module is about one measurement.
+//!
+//! With no words it runs each module at a small size, and prints what is the same at every run. With
+//! a module's name and a size it does that module's work once, so that a script can count its
+//! instructions. It promises nothing but to be safe and to end.
+#![tactic(auto)]
+
+mod bare;
+
+use anyhow::{Context, Result, bail};
+use std::env;
+
+fn main(rt: HostRuntime) -> Result<()> {
+    let mut words = env::args(&rt)?;
+    let _program = words.next();
+    let Some(module) = words.next() else {
+        return bare::small(&rt);
+    };
+    let size = match words.next() {
+        Some(text) => text.parse::<u64>().context("a size")?,
+        None => bail!("a module's name wants a size"),
+    };
+    run(&rt, module.as_str(), size)
+}
+
+/// Does the work of one module once, at a size.
+fn run(rt: &impl Print, module: &str, size: u64) -> Result<()> {
+    match module {
+        "hash" => bare::hash(rt, size),
+        "keystream" => bare::keystream(rt, size),
+        _ => bail!("no such module"),
+    }
+}
