@@ -1,0 +1,4 @@
+pub mod Cause
+pub mod Told
+pub mod Whole
+pub use Rattle.esa_lists.specs.Files

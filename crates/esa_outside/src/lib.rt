@@ -1,0 +1,36 @@
+//! The outside: files, a printer and a source of records, as traits that say what a call may do to them.
+//!
+//! What a cabinet or a printer holds is told to contracts where the implementation can tell it, and a
+//! call gives up only where a count of faults rose, or where a told file is not there or ends before.
+//! `MemCabinet` and `MemPrinter` live in memory and tell all. `HostCabinet` and `HostPrinter` are the
+//! real ones, and tell nothing. Stands on esa_lists.
+#![tactic(auto)]
+
+mod cabinet;
+mod printer;
+mod records;
+mod whole;
+
+pub use cabinet::Cabinet;
+pub use printer::Printer;
+pub use records::Records;
+pub use whole::{ReadRefused, read_whole};
+
+/// The answer of a call to the outside that did not do what it was asked.
+#[derive(Clone, Copy, PartialEq, Eq, Debug)]
+pub struct Failed;
+
+/// What a file is for, or the printer.
+#[derive(Clone, Copy, PartialEq, Eq, Debug)]
+pub enum Role {
+    Job,
+    Keys,
+    Drops,
+    Turns,
+    Input,
+    Coins,
+    Output,
+    Trace,
+    TurnsOut,
+    Printer,
+}
