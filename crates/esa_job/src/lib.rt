@@ -1,0 +1,6 @@
+//! Jobs.
+#![tactic(auto)]
+
+mod command;
+
+pub use command::{Command, command_of};
