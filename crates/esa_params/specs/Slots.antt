@@ -82,9 +82,13 @@ nonce_of p attempt slot = sealed_in attempt slot.region * 2 ^ 32 + number_of p s
 -- the access to a slot in an attempt
 abbrev pub access_of : Sizes → ℕ → Op → Slot → Access
 access_of p attempt op slot = record {
-    op = op; region = slot.region; index = slot.index;
-    length = block_length p slot; nonce = nonce_of p attempt slot; attempt = attempt
-  }
+  op = op;
+  region = slot.region;
+  index = slot.index;
+  length = block_length p slot;
+  nonce = nonce_of p attempt slot;
+  attempt = attempt;
+}
 
 -- the most accesses that a shuffle makes: the load, the attempts, and two scans of the output
 abbrev pub greatest_trace : Sizes → ℕ

@@ -19,3 +19,5 @@ pub use params::{Params, ParamsRefused, Settings, check};
 pub use plan::Plan;
 pub use slot::{Access, Op, Region, Slot};
 
+#[cfg(test)]
+mod tests;

@@ -3,9 +3,8 @@
 ghost use Rattle.std.specs.Prelude.{◌≡◌, IfOk, IfErr};
 ghost use Rattle.esa_params.specs.Limits.{is_from, first_past, numbers_of};
 
-use std::marker::Model;
-
 use crate::field::ParamField;
+use std::marker::Model;
 
 /// The parameters of a shuffle as a job states them.
 #[derive(Clone, Copy, PartialEq, Eq, Debug)]

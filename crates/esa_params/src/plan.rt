@@ -1,14 +1,14 @@
 //! A plan: settings for a batch of a given size and form, with the sizes that follow.
 
-ghost use Rattle.std.specs.Prelude.{◌≡◌, ℕ, ◌+◌, ◌<◌, ◌≤◌, SomeIndex};
+ghost use Rattle.std.specs.Prelude.{◌≡◌, ◌+◌, ◌^◌, ◌<◌, ◌≤◌};
 ghost use Rattle.esa_params.specs.Sizes.{Sizes, ArePlanned, sizes_of, share, first, size};
+ghost use Rattle.esa_params.specs.declared.slot.Slot.{Slot};
 ghost use Rattle.esa_params.specs.Slots.{IsPlanned, number_of, slots_of, slot_at, block_length, length_at, offset_at, nonce_of, access_of, greatest_trace, start, item_length};
-
-use std::marker::Model;
 
 use crate::form::Form;
 use crate::params::Settings;
 use crate::slot::{Access, Op, Region, Slot};
+use std::marker::Model;
 
 /// The sizes of one shuffle.
 ///
@@ -216,6 +216,25 @@ impl Plan {
         self.block_length(self.slot(number))
     }
 
+    /// Where the block that has a number begins, in bytes, where the blocks lie one after another by their numbers.
+    pub fn offset(&self, number: u32) -> u64
+        requires { number < slots_of self.now }
+        ensures { result ≡ offset_at self.now number }
+    {
+        let slot = self.slot(number);
+        self.region_offset(slot.region) + self.offset_inside(slot)
+    }
+
+    /// The length in bytes of the longest block.
+    #[tactic(auto, using(crate::proofs::Offsets::longest))]
+    pub fn greatest_block(&self) -> u32
+        ensures bound { (slot : Slot) → IsPlanned self.now slot → block_length self.now slot ≤ result }
+        ensures reached { (slot : Slot) × IsPlanned self.now slot × (block_length self.now slot ≡ result) }
+    {
+        let input = self.form.envelope() * self.size(0);
+        input.max(self.item() * self.c.max(self.k)) + 40
+    }
+
     /// The nonce of a slot in an attempt: the attempt times 2^32, plus the slot's number. A block of `Input` is written
     /// once, and has the nonce of attempt 0 in each attempt.
     pub fn nonce(&self, attempt: u32, slot: Slot) -> u64
@@ -284,5 +303,41 @@ impl Plan {
         ensures { result ≡ item_length self.now.form }
     {
         self.form.body() + 1
+    }
+
+    // Where a region begins, in bytes.
+    #[tactic(auto, using(crate::proofs::Offsets::regions))]
+    fn region_offset(&self, region: Region) -> u64
+        ensures value { result ≡ offset_at self.now (start self.now region) }
+        ensures small { result < 2 ^ 62 }
+    {
+        let item = u64::from(self.item());
+        let b = u64::from(self.b);
+        let mid = u64::from(self.form.envelope()) * u64::from(self.n) + 40 * b;
+        let tail = mid + b * b * (item * u64::from(self.c) + 40);
+        match region {
+            Region::Input => 0,
+            Region::Mid => mid,
+            Region::Tail => tail,
+            Region::Output => tail + b * (item * u64::from(self.k) + 40),
+        }
+    }
+
+    // The lengths of the blocks before a slot in its region, together.
+    #[tactic(auto, using(crate::proofs::Offsets::insides))]
+    fn offset_inside(&self, slot: Slot) -> u64
+        requires { IsPlanned self.now slot }
+        ensures value { offset_at self.now (start self.now slot.region) + result ≡ offset_at self.now (number_of self.now slot) }
+        ensures small { result < 2 ^ 62 }
+    {
+        let item = u64::from(self.item());
+        let index = u64::from(slot.index);
+        match slot.region {
+            Region::Input => u64::from(self.form.envelope()) * u64::from(self.first(slot.index))
+                + 40 * index,
+            Region::Mid => index * (item * u64::from(self.c) + 40),
+            Region::Tail => index * (item * u64::from(self.k) + 40),
+            Region::Output => item * u64::from(self.first(slot.index)) + 40 * index,
+        }
     }
 }
