@@ -1,2 +1,4 @@
 pub mod FilesLaws
 pub mod MapLaws
+pub mod OrderedLaws
+pub mod TallyLaws
