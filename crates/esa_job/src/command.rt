@@ -1,7 +1,7 @@
 //! The commands, and the words that name them.
 
-ghost use Rattle.std.specs.Prelude.{◌≡◌, ◌≢◌, IfSome, OnSome, IsNone};
-ghost use Rattle.esa_job.specs.Command.{word_of};
+ghost use Rattle.std.specs.Prelude.{◌≡◌, ◌≢◌, ◌≤◌, length, IfSome, IsNone};
+ghost use Rattle.esa_job.specs.Word.{command_word};
 
 /// A command of the program.
 #[derive(Clone, Copy, PartialEq, Eq, Debug)]
@@ -34,10 +34,34 @@ pub enum Command {
     Audit,
 }
 
+impl Command {
+    /// The word that names the command: 3 to 9 bytes.
+    pub fn word(self) -> &'static str
+        ensures word { result.now ≡ command_word self }
+        ensures short { length result.now ≤ 9 }
+    {
+        match self {
+            Command::Gen => "gen",
+            Command::Encode => "encode",
+            Command::Batch => "batch",
+            Command::Intake => "intake",
+            Command::Shuffle => "shuffle",
+            Command::Run => "run",
+            Command::Relay => "relay",
+            Command::Analyse => "analyse",
+            Command::Histogram => "histogram",
+            Command::Upgrade => "upgrade",
+            Command::Recover => "recover",
+            Command::Plan => "plan",
+            Command::Audit => "audit",
+        }
+    }
+}
+
 /// The command that the word names. `None` exactly where it names none.
 pub fn command_of(word: &str) -> Option<Command>
-    ensures named { IfSome result (λ command. word.now ≡ word_of command) }
-    ensures other { IsNone result → (command : Command) → word.now ≢ word_of command }
+    ensures named { IfSome result (λ command. word.now ≡ command_word command) }
+    ensures other { IsNone result → (command : Command) → word.now ≢ command_word command }
 {
     match word {
         "gen" => Some(Command::Gen),
