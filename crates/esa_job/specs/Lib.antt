@@ -1,3 +1,6 @@
 pub mod Word
 pub mod Table
 pub mod Values
+pub mod Request
+pub mod Refusal
+pub mod Seen
