@@ -3,4 +3,5 @@ pub mod Table
 pub mod Values
 pub mod Request
 pub mod Refusal
+pub mod Draft
 pub mod Seen

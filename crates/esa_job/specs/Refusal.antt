@@ -1,21 +1,21 @@
 -- The first thing that a job is refused for.
-use Rattle.std.specs.Prelude.{ℕ, Bool, true, false, ◌&&◌, ◌||◌, not, List, [], ◌∷◌, ◌++◌, find, bytes_eq, Option, Some, None, is_some, is_none, option_map, option_and_then, unwrap_or, Result, Ok, Err, if◌then◌else◌}
+use Rattle.std.specs.Prelude.{◌≡◌, ℕ, Bool, true, false, ◌&&◌, ◌||◌, not, List, [], ◌∷◌, ◌++◌, find, bytes_eq, Option, Some, None, is_some, is_none, option_map, option_and_then, unwrap_or, Result, Ok, Err, if◌then◌else◌}
 use Rattle.std.specs.List.{list_any}
 use Rattle.std.specs.Option.{option_or, option_map_or}
+use Rattle.serde_json.specs.Data.{Data}
 use Rattle.esa_json.specs.Object.{object_of}
 use Rattle.esa_params.specs.Limits.{is_from, first_past}
 use Rattle.esa_params.specs.declared.params as params
 use Rattle.esa_params.specs.declared.field.ParamField.{ParamField}
 use Rattle.esa_params.specs.declared.field.ParamField.TheVariants as param
 use Rattle.esa_job.specs.declared.command.Command.{Command}
-use Rattle.esa_job.specs.declared.command.Command.TheVariants as command
 use Rattle.esa_job.specs.declared.field.JobField.{JobField}
 use Rattle.esa_job.specs.declared.field.JobField.TheVariants.{Job, Keys, Input, Output, Trace, Turns, TurnsOut, Drops, Coins, Seed, Draw, Records, Crowds, Form, Epoch, Shares, B, C, S, K, W, Q, Workers, Attempts, M, T, Mode}
 use Rattle.esa_job.specs.declared.job.JobRefused.{JobRefused}
 use Rattle.esa_job.specs.declared.job.JobRefused.TheVariants as refused
 use Rattle.esa_job.specs.Request.{Request, is_used, is_needed, value_at, is_there, name_at, number_at, draw_at, mode_at, inputs_at}
-use Rattle.esa_job.specs.Table.{fields, kind_of, need_of}
-use Rattle.esa_job.specs.Values.{accepts, is_separators, is_crew}
+use Rattle.esa_job.specs.Table.{fields, kind_of, need_of, only_plans}
+use Rattle.esa_job.specs.Values.{accepts, name_in, is_separators, is_crew}
 
 -- ---- the first bad field
 
@@ -50,13 +50,7 @@ first_bad job = find (is_bad job) fields
 abbrev pub runs_crew : Request → Bool
 runs_crew job = option_map_or is_crew (mode_at job) false
 
--- plans are made for handed-in turns alone
-abbrev pub only_plans : Command → Bool
-only_plans command.Plan = true
-only_plans command.Audit = true
-only_plans _ = false
-
--- workers take no handed-in turns, and run only where they may
+-- workers take no handed-in turns, run only where they may, and are not planned for
 abbrev pub crew_refusal : Bool → Request → Option JobField
 crew_refusal crew_allowed job =
     if not (runs_crew job) then None
@@ -66,9 +60,17 @@ crew_refusal crew_allowed job =
 
 -- ---- names of files to write
 
+-- the value is this name
+abbrev pub is_name_of : List ℕ → Data → Bool
+is_name_of name value = option_map_or (bytes_eq name) (name_in value) false
+
+-- the field has this name
+abbrev pub is_named : Request → List ℕ → JobField → Bool
+is_named job name field = option_map_or (bytes_eq name) (name_at job field) false
+
 -- one of the fields has this name
 abbrev pub has_name : Request → List JobField → List ℕ → Bool
-has_name job fields name = list_any (λ field. option_map_or (bytes_eq name) (name_at job field) false) fields
+has_name job fields name = list_any (is_named job name) fields
 
 -- the fields that name a file to read, beside the inputs
 abbrev pub read_fields : List JobField
@@ -79,16 +81,16 @@ abbrev pub is_taken : Request → List ℕ → List JobField → List ℕ → Bo
 is_taken job job_name earlier name =
     bytes_eq name job_name || has_name job read_fields name || list_any (bytes_eq name) (inputs_at job) || has_name job earlier name
 
--- the fields that name a file to write, each with those before it
-abbrev pub written_fields : List (JobField × List JobField)
-written_fields = (Output, []) ∷ (Trace, Output ∷ []) ∷ (TurnsOut, Output ∷ Trace ∷ []) ∷ []
+abbrev pub clashes : Request → List ℕ → JobField → List JobField → Bool
+clashes job job_name field earlier = option_map_or (is_taken job job_name earlier) (name_at job field) false
 
-abbrev pub clashes : Request → List ℕ → JobField × List JobField → Bool
-clashes job job_name written = option_map_or (is_taken job job_name written.1) (name_at job written.0) false
-
--- the first whose name is taken
+-- the first file to write whose name is taken, also by those before it
 unfoldable pub first_clash : Request → List ℕ → Option JobField
-first_clash job job_name = option_map (λ written. written.0) (find (clashes job job_name) written_fields)
+first_clash job job_name =
+    if clashes job job_name Output [] then Some Output
+    else if clashes job job_name Trace (Output ∷ []) then Some Trace
+    else if clashes job job_name TurnsOut (Output ∷ Trace ∷ []) then Some TurnsOut
+    else None
 
 -- ---- limits
 
@@ -132,12 +134,20 @@ first_limit_past job = option_or (first_param_past job) (first_other_past job)
 
 -- ---- all together, in order
 
+abbrev pub field_refusal : Bool → List ℕ → Request → Option JobField
+field_refusal crew_allowed job_name job =
+    option_or (option_or (first_bad job) (crew_refusal crew_allowed job)) (first_clash job job_name)
+
 abbrev pub refusal_of : Bool → List ℕ → Request → Option JobRefused
 refusal_of crew_allowed job_name job =
-    option_or (option_map refused.Field (first_bad job))
-    (option_or (option_map refused.Field (crew_refusal crew_allowed job))
-    (option_or (option_map refused.Field (first_clash job job_name))
-    (option_map refused.Params (first_limit_past job))))
+    option_or (option_map refused.Field (field_refusal crew_allowed job_name job)) (option_map refused.Params (first_limit_past job))
+
+-- no field is bad, and each number keeps its limits
+abbrev pub is_acceptable : Request → Bool
+is_acceptable job = is_none (first_bad job) && is_none (first_limit_past job)
+
+abbrev pub IsAcceptable : Request → Type 0
+IsAcceptable job = is_acceptable job ≡ true
 
 -- the value, unless it is refused
 abbrev pub unless : {A E : Type 0} → Option E → A → Result A E

@@ -53,5 +53,10 @@ draw_at job = option_and_then draw_in (value_at job the.Draw)
 abbrev pub mode_at : Request → Option Mode
 mode_at job = option_and_then mode_in (value_at job the.Mode)
 
+-- the values of the list of inputs
+abbrev pub list_at : Request → List Data
+list_at job = option_map_or list_of (option_and_then as_array (value_at job the.Inputs)) []
+
+-- the names of the inputs
 abbrev pub inputs_at : Request → List (List ℕ)
-inputs_at job = filter_map name_in (option_map_or list_of (option_and_then as_array (value_at job the.Inputs)) [])
+inputs_at job = filter_map name_in (list_at job)

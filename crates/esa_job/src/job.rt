@@ -1,15 +1,17 @@
 //! Jobs: what a command is asked to do, read from a JSON object.
 
 ghost use Rattle.std.specs.Prelude.{◌≡◌};
-ghost use Rattle.serde_json.specs.View.{view};
+ghost use Rattle.esa_job.specs.Refusal.{IsAcceptable};
+ghost use Rattle.esa_job.specs.Draft.{drafted};
 
-use esa_params::{ParamField, Params};
-use serde_json::Value;
-use std::alloc::{AllocError, Global};
+use esa_json::read_object;
+use esa_params::{ParamField, Settings, check};
+use std::alloc::Global;
 
 use crate::command::Command;
-use crate::field::{JobField, Need};
-use crate::value::{Draw, Mode, draw_in, key_in, mode_in, name_in, number_in};
+use crate::draft::Draft;
+use crate::field::JobField;
+use crate::value::{Draw, Mode};
 
 /// Why a job was refused.
 #[derive(Clone, Copy, PartialEq, Eq, Debug)]
@@ -25,44 +27,40 @@ pub enum JobRefused {
 /// What a command is asked to do.
 #[derive(Drop)]
 pub struct Job {
-    command: Command,
-    object: Value,
+    draft: Draft,
+    ghost acceptable: { IsAcceptable (drafted draft) },
 }
 
 impl Job {
-    ghost use Rattle.std.specs.Prelude.{option_map};
-    ghost use Rattle.esa_job.specs.Request.{value_at, is_there, name_at, number_at, seed_at, draw_at, mode_at};
-    ghost use Rattle.esa_job.specs.Refusal.{is_ill_typed, is_missing, lacks_coins, draws_separators, is_bad, first_bad, runs_crew, only_plans, crew_refusal};
+    ghost use Rattle.std.specs.Prelude.{◌⊎◌, IfOk, IfErr, Ok, Err};
+    ghost use Rattle.esa_job.specs.Refusal.{job_of};
     ghost use Rattle.esa_job.specs.Seen.{request_of};
 
-    // The value of a field: nothing where it isn't there, or where the command ignores it.
-    fn value(&self, field: JobField) -> Option<&Value>
-        ensures { option_map (λ value. view value.now) result ≡ value_at (request_of self.now) field }
+    /// Reads the job of a command from the bytes of its file, of which `job_name` is the name.
+    ///
+    /// `crew_allowed` says whether the caller can run workers. A job is refused for the first of these that applies:
+    /// the file is no JSON object (`Job`); the first field of the table that is missing or ill-typed; handed-in turns
+    /// for workers; workers that can't be run; a file to write whose name is taken; the first number past its limits.
+    pub fn read(
+        alloc: Global,
+        command: Command,
+        crew_allowed: bool,
+        job_name: &str,
+        bytes: &[u8],
+    ) -> Result<Job, JobRefused>
+        ensures ok { IfOk result (λ job. job_of command crew_allowed job_name.now bytes.now ≡ Ok (request_of job)) }
+        ensures err { IfErr result (λ e. (e ≡ JobRefused.OutOfMemory)
+            ⊎ (job_of command crew_allowed job_name.now bytes.now ≡ Err e)) }
     {
-        match field.need(self.command) {
-            Need::Unused => None,
-            Need::Optional | Need::Needed => self.object.get(field.word()),
+        let object = match read_object(alloc, bytes) {
+            Ok(Some(object)) => object,
+            Ok(None) => return Err(JobRefused::Field(JobField::Job)),
+            Err(_) => return Err(JobRefused::OutOfMemory),
+        };
+        let draft = Draft { command, object };
+        match draft.refusal(crew_allowed, job_name) {
+            Some(refusal) => Err(refusal),
+            None => Ok(Job { draft }),
         }
-    }
-
-    fn has(&self, field: JobField) -> bool
-        ensures { result ≡ is_there (request_of self.now) field }
-    {
-        self.value(field).is_some()
-    }
-
-    fn is_ill_typed(&self, field: JobField) -> bool
-        ensures { result ≡ is_ill_typed (request_of self.now) field }
-    {
-        match self.value(field) {
-            Some(value) => !field.kind().accepts(value),
-            None => false,
-        }
-    }
-
-    fn is_missing(&self, field: JobField) -> bool
-        ensures { result ≡ is_missing (request_of self.now) field }
-    {
-        field.need(self.command) == Need::Needed && !self.has(field)
     }
 }

@@ -2,6 +2,7 @@
 #![tactic(auto)]
 
 mod command;
+mod draft;
 mod field;
 mod job;
 mod value;
