@@ -1,5 +1,5 @@
 -- The table of a job's fields, in the order in which they are looked at.
-use Rattle.std.specs.Prelude.{List, [], ◌∷◌}
+use Rattle.std.specs.Prelude.{Bool, true, false, List, [], ◌∷◌}
 use Rattle.esa_job.specs.declared.command.Command.{Command}
 use Rattle.esa_job.specs.declared.command.Command.TheVariants as command
 use Rattle.esa_job.specs.declared.field.JobField.{JobField}
@@ -89,3 +89,9 @@ need_of Attempts  = columns no  no  no  no  yes yes yes no  no  no  no  yes yes
 need_of M         = columns no  no  yes yes yes yes yes no  no  no  no  no  no
 need_of T         = columns no  no  no  no  yes yes no  no  no  no  no  no  no
 need_of Mode      = columns no  no  no  yes yes yes yes no  no  no  no  yes yes
+
+-- plans are for handed-in turns alone
+abbrev pub only_plans : Command → Bool
+only_plans command.Plan = true
+only_plans command.Audit = true
+only_plans _ = false

@@ -43,11 +43,19 @@ draw_named word = if bytes_eq word (codes "single") then Some Single else if byt
 abbrev pub draw_in : Data → Option Draw
 draw_in value = option_and_then draw_named (as_str value)
 
+abbrev pub is_separators : Draw → Bool
+is_separators Single = false
+is_separators Separators = true
+
 abbrev pub mode_named : List ℕ → Option Mode
 mode_named word = if bytes_eq word (codes "turns") then Some Turns else if bytes_eq word (codes "crew") then Some Crew else None
 
 abbrev pub mode_in : Data → Option Mode
 mode_in value = option_and_then mode_named (as_str value)
+
+abbrev pub is_crew : Mode → Bool
+is_crew Turns = false
+is_crew Crew = true
 
 -- the values of a JSON list
 abbrev pub list_of : Items → List Data

@@ -1,6 +1,7 @@
 //! The commands, and the words that name them.
 
 ghost use Rattle.std.specs.Prelude.{◌≡◌, ◌≢◌, ◌≤◌, length, IfSome, IsNone};
+ghost use Rattle.esa_job.specs.Table.{only_plans};
 ghost use Rattle.esa_job.specs.Word.{command_word};
 
 /// A command of the program.
@@ -54,6 +55,16 @@ impl Command {
             Command::Recover => "recover",
             Command::Plan => "plan",
             Command::Audit => "audit",
+        }
+    }
+
+    // Whether the command takes a plan for what it is, so that nothing is shuffled.
+    pub(crate) fn only_plans(self) -> bool
+        ensures { result ≡ only_plans self }
+    {
+        match self {
+            Command::Plan | Command::Audit => true,
+            _ => false,
         }
     }
 }

@@ -100,6 +100,48 @@ pub enum Need {
 }
 
 impl JobField {
+    /// The fields of a job, in the order in which they are looked at.
+    pub const IN_ORDER: [JobField; 29] = [
+        JobField::Keys,
+        JobField::Input,
+        JobField::Inputs,
+        JobField::Output,
+        JobField::Trace,
+        JobField::Turns,
+        JobField::TurnsOut,
+        JobField::Drops,
+        JobField::Coins,
+        JobField::Seed,
+        JobField::Draw,
+        JobField::Records,
+        JobField::Crowds,
+        JobField::Number,
+        JobField::NonceBase,
+        JobField::Form,
+        JobField::Epoch,
+        JobField::Shares,
+        JobField::B,
+        JobField::C,
+        JobField::S,
+        JobField::K,
+        JobField::W,
+        JobField::Q,
+        JobField::Workers,
+        JobField::Attempts,
+        JobField::M,
+        JobField::T,
+        JobField::Mode,
+    ];
+
+    // The fields that name a file to read, beside the inputs.
+    pub(crate) const READ: [JobField; 5] = [
+        JobField::Keys,
+        JobField::Input,
+        JobField::Turns,
+        JobField::Drops,
+        JobField::Coins,
+    ];
+
     /// The field's name: 1 to 10 bytes.
     pub fn word(self) -> &'static str
         ensures word { result.now ≡ field_word self }
