@@ -1,0 +1,9 @@
+pub mod Totals
+pub mod Prefixes
+pub mod Rebuilt
+pub mod Draws
+pub mod Looks
+pub mod Counts
+pub mod Advances
+pub mod Reseated
+pub mod Notes

@@ -1,0 +1,6 @@
+pub mod Entries
+pub mod Views
+pub mod Lock
+pub mod Steps
+pub mod Passes
+pub mod Closing

@@ -1,0 +1,16 @@
+//! A ticket lock over two words and one slot, whose value keeps a list of who entered.
+//!
+//! Passes are handed out by number. A pass that enters finds a value whose entries begin with all that the pass has
+//! seen, and leaves it with its own number added. Once all passes are back, the value is given up, and each number
+//! stands in it as often as its pass entered. It stands on `atomic_table`.
+#![tactic(auto)]
+
+mod logged;
+mod pass;
+mod plays;
+mod turnstile;
+mod view;
+
+pub use logged::Logged;
+pub use pass::{Held, Pass};
+pub use turnstile::{NoTurnstile, Opened, Turnstile};
