@@ -5,7 +5,12 @@ ghost use Rattle.std.specs.Option.{option_copied};
 ghost use Rattle.std.specs.String.{string_bytes};
 ghost use Rattle.std.specs.FinMap as map;
 ghost use Rattle.esa_outside.specs.Memory.{IsFirstOf, files_of};
-ghost use Rattle.esa_outside.specs.Told.{IsPart, EndsBefore};
+ghost use Rattle.std.specs.Result.{result_ok};
+ghost use Rattle.std.specs.Option.{option_map};
+ghost use Rattle.esa_outside.specs.Files.{Files};
+ghost use Rattle.esa_outside.specs.Calls.{IsListed, called, faulted, starved};
+ghost use Rattle.esa_outside.specs.Cause.{HasCause};
+ghost use Rattle.esa_outside.specs.Told.{IsPart, EndsBefore, Lacks, HoldsFront};
 
 use crate::schedule::Schedule;
 use crate::{Cabinet, Failed};
@@ -79,7 +84,16 @@ impl Cabinet for MemCabinet {
         self.calls.faults()
     }
 
-    fn length(&mut self, name: &str) -> Result<u64, Failed> {
+    fn length(&mut self, name: &str) -> Result<u64, Failed>
+        ensures length { IfOk result (λ n. option_map length (map.get self.old.files name.now) ≡ Some n) }
+        ensures files { self.new.files ≡ self.old.files }
+        ensures cause { HasCause self.old.calls.faults self.new.calls.faults (EndsBefore (map.get self.old.files name.now) 0) result }
+
+        // It fails exactly where its number is listed or the file is not there.
+        ensures listed { IsListed self.old.calls → IsErr result × (self.new.calls ≡ faulted (called self.old.calls)) }
+        ensures unlisted { (IsListed self.old.calls → ⊥)
+            → (IsErr result ↔ EndsBefore (map.get self.old.files name.now) 0) × (self.new.calls ≡ called self.old.calls) }
+    {
         if self.calls.begin() {
             self.calls.fault();
             return Err(Failed);
@@ -90,7 +104,16 @@ impl Cabinet for MemCabinet {
         }
     }
 
-    fn read_at(&mut self, name: &str, at: u64, out: &mut [u8]) -> Result<(), Failed> {
+    fn read_at(&mut self, name: &str, at: u64, out: &mut [u8]) -> Result<(), Failed>
+        ensures bytes { OnOk result (IsPart (map.get self.old.files name.now) at out.new) }
+        ensures files { self.new.files ≡ self.old.files }
+        ensures cause { HasCause self.old.calls.faults self.new.calls.faults (EndsBefore (map.get self.old.files name.now) (at + length out.old)) result }
+
+        // It fails exactly where its number is listed, or the file is not there or ends before.
+        ensures listed { IsListed self.old.calls → IsErr result × (self.new.calls ≡ faulted (called self.old.calls)) }
+        ensures unlisted { (IsListed self.old.calls → ⊥)
+            → (IsErr result ↔ EndsBefore (map.get self.old.files name.now) (at + length out.old)) × (self.new.calls ≡ called self.old.calls) }
+    {
         if self.calls.begin() {
             self.calls.fault();
             return Err(Failed);
@@ -101,7 +124,16 @@ impl Cabinet for MemCabinet {
         }
     }
 
-    fn start(&mut self, name: &str) -> Result<(), Failed> {
+    fn start(&mut self, name: &str) -> Result<(), Failed>
+        ensures started { OnOk result (self.new.files ≡ map.insert self.old.files name.now []) }
+        ensures failed { OnErr result (self.new.files ≡ self.old.files) }
+        ensures cause { HasCause self.old.calls.faults self.new.calls.faults ⊥ result }
+
+        // It fails exactly where its number is listed or there is no memory.
+        ensures listed { IsListed self.old.calls → IsErr result × (self.new.calls ≡ faulted (called self.old.calls)) }
+        ensures unlisted { (IsListed self.old.calls → ⊥)
+            → OnOk result (self.new.calls ≡ called self.old.calls) × OnErr result (self.new.calls ≡ starved (called self.old.calls)) }
+    {
         if self.calls.begin() {
             self.calls.fault();
             return Err(Failed);
@@ -116,7 +148,21 @@ impl Cabinet for MemCabinet {
         }
     }
 
-    fn append(&mut self, name: &str, bytes: &[u8]) -> Result<(), Failed> {
+    fn append(&mut self, name: &str, bytes: &[u8]) -> Result<(), Failed>
+        ensures added { (files : Files) (held : List ℕ) → Some self.old.files ≡ Some files → map.get files name.now ≡ Some held
+            → OnOk result (Some self.new.files ≡ Some (map.insert files name.now (held ++ bytes.now))) }
+        ensures failed { (files : Files) (held : List ℕ) → Some self.old.files ≡ Some files → map.get files name.now ≡ Some held
+            → OnErr result (HoldsFront files name.now (held ++ bytes.now) (Some self.new.files)) }
+        ensures kept { OnErr result (self.new.files ≡ self.old.files) }
+        ensures cause { HasCause self.old.calls.faults self.new.calls.faults (EndsBefore (map.get self.old.files name.now) 0) result }
+
+        // It fails exactly where its number is listed, the file is not there, or there is no memory.
+        ensures listed { IsListed self.old.calls → IsErr result × (self.new.calls ≡ faulted (called self.old.calls)) }
+        ensures absent { map.get self.old.files name.now ≡ None → IsErr result }
+        ensures unlisted_absent { (IsListed self.old.calls → ⊥) → map.get self.old.files name.now ≡ None → self.new.calls ≡ called self.old.calls }
+        ensures unlisted { (IsListed self.old.calls → ⊥) → (held : List ℕ) → map.get self.old.files name.now ≡ Some held
+            → OnOk result (self.new.calls ≡ called self.old.calls) × OnErr result (self.new.calls ≡ starved (called self.old.calls)) }
+    {
         if self.calls.begin() {
             self.calls.fault();
             return Err(Failed);
