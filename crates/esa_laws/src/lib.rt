@@ -4,4 +4,7 @@
 //! crate stands on the definitions alone, and takes no memory.
 #![tactic(auto)]
 
+pub mod lines;
 pub mod queues;
+pub mod spreads;
+pub mod turns;
