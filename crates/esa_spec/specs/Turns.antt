@@ -57,6 +57,10 @@ events b h = map (event_at b h) (below (length h))
 abbrev pub next : ℕ → List ℕ → ℕ → Event
 next b h w = event_at b (h ++ w ∷ []) (length h)
 
+-- the phase of the next turn of worker w
+abbrev pub next_phase : ℕ → List ℕ → ℕ → ℕ
+next_phase b h w = turns_of w h % (b + 3)
+
 -- how many rounds were begun
 abbrev pub claims : ℕ → List ℕ → ℕ
 claims b h = count_by (is_claim b h) (below (length h))
@@ -64,6 +68,10 @@ claims b h = count_by (is_claim b h) (below (length h))
 -- the bucket of the round in which the next turn of worker w stands
 abbrev pub held : ℕ → List ℕ → ℕ → ℕ
 held b h w = bucket b (h ++ w ∷ []) (length h)
+
+-- what a turn does, by the rounds begun so far and by the worker's phase and bucket
+abbrev pub acted : ℕ → ℕ → ℕ → ℕ → Event
+acted b claimed phase bucket = if phase == 0 then event_of b claimed 0 else event_of b bucket phase
 
 -- the bucket that an event exchanges
 abbrev pub exchanged : Event → Option ℕ

@@ -1,0 +1,5 @@
+pub mod LineLaws
+pub mod QueueLaws
+pub mod Ranges
+pub mod SpreadLaws
+pub mod TurnLaws
