@@ -1,18 +1,21 @@
 -- What a job that is acceptable has at its fields.
-use Rattle.std.proofs.Common.{◌≡◌, ℕ, ◌≤◌, Bool, true, false, ◌&&◌, ◌||◌, not, cond, List, [], ◌∷◌, find, Option, Some, None, is_some, is_none, option_and_then, IsSome, refl, ap, ◌∙◌, sym, nat_le}
-use Rattle.std.specs.List.{AllByRecursion}
+use Rattle.std.proofs.Common.{◌≡◌, ℕ, zero, suc, ◌≤◌, Bool, true, false, ◌&&◌, ◌||◌, not, cond, List, [], ◌∷◌, length, map, find, slice_get, Option, Some, None, is_some, is_none, option_map, option_and_then, IsSome, refl, ap, ◌∙◌, sym, subst, nat_le}
+use Rattle.std.specs.List.{AllByRecursion, list_all, filter_map, cons_option}
 use Rattle.std.specs.Option.{option_or, option_map_or}
-use Rattle.serde_json.specs.Data.{Data}
-use Rattle.esa_params.specs.Limits.{first_past}
+use Rattle.std.proofs.lemmas.Bool.{leb-true}
+use Rattle.std.proofs.lemmas.Option.{slice_get-map}
+use Rattle.serde_json.specs.Data.{Data, Items}
+use Rattle.serde_json.specs.Find.{as_array}
+use Rattle.esa_params.specs.Limits.{is_from, first_past}
 use Rattle.esa_job.specs.declared.field.JobField.{JobField}
 use Rattle.esa_job.specs.declared.field.JobField.TheVariants.{Job, Keys, Input, Inputs, Output, Trace, Turns, TurnsOut, Drops, Coins, Seed, Draw, Records, Crowds, Number, NonceBase, Form, Epoch, Shares, B, C, S, K, W, Q, Workers, Attempts, M, T, Mode}
 use Rattle.esa_job.specs.declared.field.Kind.TheVariants as kind
 use Rattle.esa_job.specs.declared.field.Need.{Need}
 use Rattle.esa_job.specs.declared.field.Need.TheVariants.{Unused, Optional, Needed}
 use Rattle.esa_job.specs.Refusal.{IsAcceptable, is_missing, is_ill_typed, breaks_rule, is_bad, first_bad, is_past, params_of, first_param_past, first_other_past, first_limit_past}
-use Rattle.esa_job.specs.Request.{Request, is_used, is_needed, value_at, is_there, name_at, number_at, mode_at}
+use Rattle.esa_job.specs.Request.{Request, is_used, is_needed, value_at, is_there, name_at, number_at, mode_at, list_at, inputs_at}
 use Rattle.esa_job.specs.Table.{fields, kind_of, need_of}
-use Rattle.esa_job.specs.Values.{accepts, name_in, number_in, mode_in}
+use Rattle.esa_job.specs.Values.{accepts, name_in, number_in, mode_in, is_name, is_name_list, holds_names, list_of}
 
 -- ---- tests
 
@@ -23,6 +26,10 @@ both_false false b h = (refl, h)
 both_true : (a b : Bool) → (a && b) ≡ true → (a ≡ true) × (b ≡ true)
 both_true true b h = (refl, h)
 both_true false b h = cc
+
+not-false : (b : Bool) → not b ≡ false → b ≡ true
+not-false true h = refl
+not-false false h = sym h
 
 not_chosen : {A : Type 0} (test : Bool) (x : A) (rest : Option A) → cond test (Some x) rest ≡ None → (test ≡ false) × (rest ≡ None)
 not_chosen true x rest h = cc
@@ -93,10 +100,6 @@ good job accepted field =
 some_value : {A : Type 0} (read : Data → Option A) (found : Option Data) → is_some found ≡ true → option_map_or (λ value. not (is_some (read value))) found false ≡ false → is_some (option_and_then read found) ≡ true
 some_value read None there typed = there
 some_value read (Some value) there typed = not-false (is_some (read value)) typed
-  where
-  not-false : (b : Bool) → not b ≡ false → b ≡ true
-  not-false true h = refl
-  not-false false h = sym h
 
 is_there-needed : (job : Request) (field : JobField) → need_of field job.command ≡ Needed → is_missing job field ≡ false → is_there job field ≡ true
 is_there-needed job field needed missing = known (need_of field job.command) (is_there job field) needed missing
@@ -164,3 +167,53 @@ params_kept job accepted needed = known (need_of B job.command) (first_past (par
   known Unused past needed none = cc
   known Optional past needed none = none
   known Needed past needed none = none
+
+is_kept : (least greatest number : ℕ) → not (is_from number least greatest) ≡ false → (least ≤ number) × (number ≤ greatest)
+is_kept least greatest number past =
+    let tests = both_true (nat_le least number) (nat_le number greatest) (not-false _ past) in
+    (leb-true _ _ tests.0, leb-true _ _ tests.1)
+
+-- a number that is not past its limits
+pub within : (job : Request) (field : JobField) (least greatest number : ℕ) → Some number ≡ number_at job field → is_past job field least greatest ≡ false → (least ≤ number) × (number ≤ greatest)
+within job field least greatest number is past =
+    let P : Option ℕ → Type 0 = λ found. option_map_or (λ n. not (is_from n least greatest)) found false ≡ false in
+    is_kept least greatest number (subst P (sym is) past)
+
+-- ---- what a value is read from
+
+pub is_some-before : {A B : Type 0} (f : A → B) (found : Option A) (seen : Option B) → option_map f found ≡ seen → IsSome seen → IsSome found
+is_some-before f None seen is some = ap is_some is ∙ some
+is_some-before f (Some x) seen is some = refl
+
+-- ---- inputs
+
+slice_get-filter_map : {A B : Type 0} (read : A → Option B) (values : List A) (place : ℕ) → list_all (λ value. is_some (read value)) values ≡ true → slice_get (filter_map read values) place ≡ option_and_then read (slice_get values place)
+slice_get-filter_map read [] place named = refl
+slice_get-filter_map read (value ∷ values) zero named = first (read value) (filter_map read values) (both_true _ _ named).0
+  where
+  first : {B : Type 0} (found : Option B) (rest : List B) → is_some found ≡ true → slice_get (cons_option found rest) zero ≡ found
+  first None rest some = cc
+  first (Some x) rest some = refl
+slice_get-filter_map read (value ∷ values) (suc place) named =
+    later (read value) (filter_map read values) place (both_true _ _ named).0 ∙ slice_get-filter_map read values place (both_true _ _ named).1
+  where
+  later : {B : Type 0} (found : Option B) (rest : List B) (place : ℕ) → is_some found ≡ true → slice_get (cons_option found rest) (suc place) ≡ slice_get rest place
+  later None rest place some = cc
+  later (Some x) rest place some = refl
+
+inputs_named : (job : Request) → IsAcceptable job → list_all is_name (list_at job) ≡ true
+inputs_named job accepted = known (value_at job Inputs) (good job accepted Inputs).typed
+  where
+  listed : (found : Option Items) → not (option_map_or (λ values. is_name_list (list_of values)) found false) ≡ false → list_all is_name (option_map_or list_of found []) ≡ true
+  listed None typed = cc
+  listed (Some values) typed = (both_true (nat_le 1 (length (list_of values)) && nat_le (length (list_of values)) 16) _ (not-false _ typed)).1
+  known : (found : Option Data) → option_map_or (λ value. not (holds_names value)) found false ≡ false → list_all is_name (option_map_or list_of (option_and_then as_array found) []) ≡ true
+  known None typed = refl
+  known (Some value) typed = listed (as_array value) typed
+
+-- the input at a place is the name that the value there is
+pub input_at : (job : Request) → IsAcceptable job → {V : Type 0} (view : V → Data) (values : List V) (place : ℕ) → map view values ≡ list_at job → slice_get (inputs_at job) place ≡ option_and_then name_in (option_map view (slice_get values place))
+input_at job accepted view values place is =
+    slice_get-filter_map name_in (list_at job) place (inputs_named job accepted)
+    ∙ ap (λ found. option_and_then name_in (slice_get found place)) (sym is)
+    ∙ ap (option_and_then name_in) (slice_get-map view values place)
