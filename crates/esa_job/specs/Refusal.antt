@@ -36,12 +36,16 @@ draws_separators job = option_map_or is_separators (draw_at job) false
 
 -- Of the coins and the seed exactly one has to be there: the coins are bad where there are neither, the seed where
 -- there are both. Separators are drawn from a seed alone.
-abbrev pub is_bad : Request → JobField → Bool
-is_bad job Coins = lacks_coins job || is_ill_typed job Coins
-is_bad job Seed = is_ill_typed job Seed || (is_there job Seed && is_there job Coins)
-is_bad job Draw = is_ill_typed job Draw || (draws_separators job && not (is_there job Seed))
-is_bad job field = is_missing job field || is_ill_typed job field
+abbrev pub breaks_rule : Request → JobField → Bool
+breaks_rule job Coins = lacks_coins job
+breaks_rule job Seed = is_there job Seed && is_there job Coins
+breaks_rule job Draw = draws_separators job && not (is_there job Seed)
+breaks_rule job _ = false
 
+abbrev pub is_bad : Request → JobField → Bool
+is_bad job field = is_missing job field || is_ill_typed job field || breaks_rule job field
+
+-- the first bad field in the order of the table
 unfoldable pub first_bad : Request → Option JobField
 first_bad job = find (is_bad job) fields
 

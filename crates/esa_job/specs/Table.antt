@@ -59,7 +59,7 @@ no = Unused
 -- has to be there, which is a rule of its own.
 abbrev pub need_of : JobField → Command → Need
 --                          gen enc bat int shu run rel ana his upg rec pla aud
-need_of Job       = columns no  no  no  no  no  no  no  no  no  no  no  no  no
+need_of Job       = λ _. no
 need_of Keys      = columns no  yes no  no  yes yes yes yes no  no  no  no  no
 need_of Input     = columns no  yes yes no  yes yes yes yes yes yes yes no  yes
 need_of Inputs    = columns no  no  no  yes no  no  no  no  no  no  no  no  no

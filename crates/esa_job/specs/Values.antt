@@ -6,6 +6,8 @@ use Rattle.std.specs.Result.{result_ok}
 use Rattle.hex.specs.Hex.{decode_sized}
 use Rattle.serde_json.specs.Data.{Data, Items, no_items, item}
 use Rattle.serde_json.specs.Find.{as_str, as_array, as_number, as_u64}
+use Rattle.esa_params.specs.declared.form.Form.{Form}
+use Rattle.esa_params.specs.declared.form.Form.TheVariants.{One, Two}
 use Rattle.esa_job.specs.declared.field.Kind.{Kind}
 use Rattle.esa_job.specs.declared.field.Kind.TheVariants as kind
 use Rattle.esa_job.specs.declared.value.Draw.{Draw}
@@ -56,6 +58,11 @@ mode_in value = option_and_then mode_named (as_str value)
 abbrev pub is_crew : Mode → Bool
 is_crew Turns = false
 is_crew Crew = true
+
+-- the number that stands for a form of the records
+abbrev pub form_number : Form → ℕ
+form_number One = 1
+form_number Two = 2
 
 -- the values of a JSON list
 abbrev pub list_of : Items → List Data

@@ -3,7 +3,7 @@
 ghost use Rattle.std.specs.Prelude.{◌≡◌, map, bytes_eq, option_map};
 ghost use Rattle.std.specs.List.{list_any};
 ghost use Rattle.serde_json.specs.View.{view};
-ghost use Rattle.esa_job.specs.Refusal.{is_ill_typed, is_missing, lacks_coins, draws_separators, is_bad, first_bad, runs_crew, crew_refusal, is_name_of, is_named, has_name, is_taken, clashes, first_clash, params_of, number_or_zero, first_param_past, is_past, first_other_past, first_limit_past, field_refusal, refusal_of};
+ghost use Rattle.esa_job.specs.Refusal.{is_ill_typed, is_missing, lacks_coins, draws_separators, breaks_rule, is_bad, first_bad, runs_crew, crew_refusal, is_name_of, is_named, has_name, is_taken, clashes, first_clash, params_of, number_or_zero, first_param_past, is_past, first_other_past, first_limit_past, field_refusal, refusal_of};
 
 use esa_params::{ParamField, Params, check};
 use serde_json::Value;
@@ -89,19 +89,22 @@ impl Draft {
         }
     }
 
+    // Whether the field breaks a rule of its own.
+    fn breaks_rule(&self, field: JobField) -> bool
+        ensures { result ≡ breaks_rule (drafted self.now) field }
+    {
+        match field {
+            JobField::Coins => self.lacks_coins(),
+            JobField::Seed => self.has(JobField::Seed) && self.has(JobField::Coins),
+            JobField::Draw => self.draws_separators() && !self.has(JobField::Seed),
+            _ => false,
+        }
+    }
+
     fn is_bad(&self, field: JobField) -> bool
         ensures { result ≡ is_bad (drafted self.now) field }
     {
-        match field {
-            JobField::Coins => self.lacks_coins() || self.is_ill_typed(field),
-            JobField::Seed => {
-                self.is_ill_typed(field) || self.has(JobField::Seed) && self.has(JobField::Coins)
-            }
-            JobField::Draw => {
-                self.is_ill_typed(field) || self.draws_separators() && !self.has(JobField::Seed)
-            }
-            _ => self.is_missing(field) || self.is_ill_typed(field),
-        }
+        self.is_missing(field) || self.is_ill_typed(field) || self.breaks_rule(field)
     }
 
     #[tactic(auto, unfolding(crate::specs::Refusal::first_bad, crate::specs::Table::fields))]
