@@ -1,0 +1,13 @@
+-- The versions of the files.
+use Rattle.std.specs.Prelude.{ℕ, ◌==◌, if◌then◌else◌, Option, Some, None}
+use Rattle.esa_params.specs.declared.form.Form.{Form}
+use Rattle.esa_params.specs.declared.form.Form.TheVariants.{One, Two}
+
+-- the version byte of the files of a form
+abbrev pub version_byte : Form → ℕ
+version_byte One = 1
+version_byte Two = 2
+
+-- the form that the files of a version carry
+abbrev pub form_in : ℕ → Option Form
+form_in version = if version == 1 then Some One else if version == 2 then Some Two else None
