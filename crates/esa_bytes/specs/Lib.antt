@@ -1,0 +1,4 @@
+pub mod Decimal
+pub mod Field
+pub mod Hexadecimal
+pub mod Lines
