@@ -1,5 +1,5 @@
 -- The versions of the files.
-use Rattle.std.specs.Prelude.{ℕ, ◌==◌, if◌then◌else◌, Option, Some, None}
+use Rattle.std.specs.Prelude.{◌≡◌, ℕ, ◌<◌, ◌^◌, ◌==◌, if◌then◌else◌, Option, Some, None}
 use Rattle.esa_params.specs.declared.form.Form.{Form}
 use Rattle.esa_params.specs.declared.form.Form.TheVariants.{One, Two}
 
@@ -11,3 +11,8 @@ version_byte Two = 2
 -- the form that the files of a version carry
 abbrev pub form_in : ℕ → Option Form
 form_in version = if version == 1 then Some One else if version == 2 then Some Two else None
+
+-- a key epoch that files of the form can carry: version 1 has none, and stands for epoch 0
+abbrev pub IsEpochOf : Form → ℕ → Type 0
+IsEpochOf One epoch = epoch ≡ 0
+IsEpochOf Two epoch = epoch < 2 ^ 32
