@@ -17,7 +17,7 @@ use Rattle.esa_header.specs.declared.header.FileKind.TheVariants.{Batch, Forward
 use Rattle.esa_header.specs.declared.header.Header.{Header}
 use Rattle.esa_header.specs.declared.header.HeaderRefused.{HeaderRefused}
 use Rattle.esa_header.specs.declared.header.HeaderRefused.TheVariants.{BadMagic, BadSize, Trailing}
-use Rattle.esa_header.specs.Header.{cut, magic, record_length, header_length, header_bytes, file_length, epoch_bytes, epoch_in, header_at, version_result, form_by_front, header_by_length, header_by_form, header_in, IsFileOf}
+use Rattle.esa_header.specs.Header.{cut, magic, record_length, header_length, front_bytes, header_bytes, file_length, epoch_bytes, epoch_in, header_at, version_result, form_by_front, header_by_length, header_by_form, header_in, IsFileOf}
 
 take_none : (m : ℕ) → ◌≡◌ {A = List ℕ} [] (take m [])
 take_none zero = refl
@@ -50,10 +50,10 @@ then_passed : {T E : Type 0} (b : Bool) (e : E) (r : Result T E) (x : T) → con
 then_passed true e r x h = (refl, h)
 then_passed false e r x h = cc
 
-not_below : (a b : ℕ) → nat_lt a b ≡ false → b ≤ a
+pub not_below : (a b : ℕ) → nat_lt a b ≡ false → b ≤ a
 not_below a b h = grind (arith, nat_tests)
 
-no_test : (a b : ℕ) → b ≤ a → nat_lt a b ≡ false
+pub no_test : (a b : ℕ) → b ≤ a → nat_lt a b ≡ false
 no_test a b h = grind (arith, nat_tests)
 
 same_number : (a b : ℕ) → (a == b) ≡ true → a ≡ b
@@ -303,3 +303,12 @@ header_in-accepts kind bytes header is =
 pub result-spelled : (kind : FileKind) (bytes : List ℕ) → AreBytes bytes → (r : Result Header HeaderRefused) → r ≡ header_in kind bytes (length bytes) → IfOk r (λ header. IsFileOf kind header bytes)
 result-spelled kind bytes are (Ok header) read = header_in-spelled kind bytes are header (sym read)
 result-spelled kind bytes are (Err refused) read = tt
+
+pub length-header_bytes : (kind : FileKind) (header : Header) → length (header_bytes kind header) ≡ header_length header.form
+length-header_bytes kind header = length-append (front_bytes kind header) _ ∙ by_form kind header.form header.epoch header.count
+  where
+    by_form : (kind : FileKind) (form : Form) (epoch count : ℕ) → length (front_bytes kind (record { form = form; epoch = epoch; count = count })) + length (epoch_bytes form epoch) ≡ header_length form
+    by_form Batch One epoch count = refl
+    by_form Batch Two epoch count = refl
+    by_form Forward One epoch count = refl
+    by_form Forward Two epoch count = refl
