@@ -1,4 +1,5 @@
 pub mod FilesLaws
 pub mod MapLaws
 pub mod OrderedLaws
+pub mod RunsLaws
 pub mod TallyLaws

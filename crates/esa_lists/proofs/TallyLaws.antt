@@ -1,20 +1,19 @@
 -- Counts of equal elements, and the tally of a list, which its order does not change. For a total order in
 -- which only equal elements tie.
-use Rattle.std.proofs.Common.{◌≡◌, ℕ, suc, zero, ◌+◌, ◌<◌, ◌≤◌, Bool, true, false, cond, eqb, List, [], ◌∷◌, ◌++◌, length, Option, Some, None, sym, refl, ap, ◌∙◌, subst, arith}
+use Rattle.std.proofs.Common.{◌≡◌, ℕ, suc, zero, ◌+◌, cond, List, [], ◌∷◌, ◌++◌, Option, Some, None, sym, refl, ap, ◌∙◌, arith}
 use Rattle.std.specs.Prelude.{unwrap_or}
 use Rattle.std.specs.declared.cmp.Ordering.{Ordering}
 use Rattle.std.specs.declared.cmp.Ordering.TheVariants.{Less, Equal, Greater}
-use Rattle.std.specs.Ordering.{is_lt, is_eq, eq_by_cmp, ordering_reverse}
-use Rattle.std.specs.Cmp.{IsTotalOrder, tied_itself, tied_back, eq_by_cmp_equiv}
-use Rattle.std.specs.List.{sum_by, count_by}
-use Rattle.std.specs.List.Sorted.{IsSorted, IsPermutation}
+use Rattle.std.specs.Ordering.{is_eq, eq_by_cmp}
+use Rattle.std.specs.Cmp.{IsTotalOrder}
+use Rattle.std.specs.List.Sorted.{IsPermutation}
 use Rattle.std.specs.FinMap as map
 use Rattle.std.specs.FinMap.{IsAntisymmetric}
 use Rattle.std.proofs.lemmas.List.Sorted.{sum_by-IsPermutation}
-use Rattle.std.proofs.lemmas.List.Sums.{sum_by-cons, sum_by-append}
+use Rattle.std.proofs.lemmas.List.Sums.{sum_by-append}
 use Rattle.esa_lists.specs.Ordered.{ordered}
-use Rattle.esa_lists.specs.Tally.{times, tally, runs, count_first}
-use Rattle.esa_lists.proofs.OrderedLaws.{times-cons, NoneLess, Rises, Rises-from_sorted, not_less, IsPermutation-ordered}
+use Rattle.esa_lists.specs.Tally.{times, tally}
+use Rattle.esa_lists.proofs.OrderedLaws.{times-cons, IsPermutation-ordered}
 
 pub times-append : {X : Type 0} (R : X → X → Ordering) (q : X) (xs ys : List X) → times R q (xs ++ ys) ≡ times R q xs + times R q ys
 times-append R q xs ys = sum_by-append _ xs ys

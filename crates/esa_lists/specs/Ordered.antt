@@ -1,5 +1,5 @@
 -- A list in order, by a comparison.
-use Rattle.std.specs.Prelude.{Bool, cond, List, [], ◌∷◌}
+use Rattle.std.specs.Prelude.{cond, List, [], ◌∷◌}
 use Rattle.std.specs.declared.cmp.Ordering.{Ordering}
 use Rattle.std.specs.Ordering.{is_lt}
 

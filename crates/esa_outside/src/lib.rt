@@ -8,10 +8,13 @@
 
 mod cabinet;
 mod printer;
+mod memory;
 mod records;
+mod schedule;
 mod whole;
 
 pub use cabinet::Cabinet;
+pub use memory::MemCabinet;
 pub use printer::Printer;
 pub use records::Records;
 pub use whole::{ReadRefused, read_whole};
