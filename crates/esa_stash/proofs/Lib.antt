@@ -1,0 +1,4 @@
+pub mod Linking
+pub mod Partitions
+pub mod Rising
+pub mod Walks
