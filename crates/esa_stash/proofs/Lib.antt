@@ -1,3 +1,4 @@
+pub mod Arenas
 pub mod Linking
 pub mod Partitions
 pub mod Rising

@@ -11,7 +11,7 @@ use Rattle.esa_stash.specs.Links.{occurrences, cells_from, IsPartition}
 use Rattle.esa_stash.specs.Ends.{cells_of, EndsInLast, AreLinked, rising_ends, no_ends}
 use Rattle.esa_stash.proofs.Partitions.{occurrences-cons}
 
-map-replicate : {X Y : Type 0} (f : X → Y) (n : ℕ) (x : X) → map f (replicate n x) ≡ replicate n (f x)
+pub map-replicate : {X Y : Type 0} (f : X → Y) (n : ℕ) (x : X) → map f (replicate n x) ≡ replicate n (f x)
 map-replicate f zero x = refl
 map-replicate {Y = Y} f (suc n) x = ap (λ (l : List Y). f x ∷ l) (map-replicate f n x)
 

@@ -21,10 +21,10 @@ cells_from-suc next cell zero = refl
 cells_from-suc next cell (suc n) = ap (λ (l : List ℕ). cell ∷ l) (cells_from-suc next (get_or next cell 0) n)
 
 -- a walk that doesn't pass a cell goes the same way whatever comes after that cell
-apart_from : (x c : ℕ) (l : List ℕ) → occurrences x (c ∷ l) ≡ 0 → c ≢ x
+pub apart_from : (x c : ℕ) (l : List ℕ) → occurrences x (c ∷ l) ≡ 0 → c ≢ x
 apart_from x c l none e = let head = occurrences-cons x c l in grind arith
 
-rest_apart : (x c : ℕ) (l : List ℕ) → occurrences x (c ∷ l) ≡ 0 → occurrences x l ≡ 0
+pub rest_apart : (x c : ℕ) (l : List ℕ) → occurrences x (c ∷ l) ≡ 0 → occurrences x l ≡ 0
 rest_apart x c l none = let head = occurrences-cons x c l in omega arith
 
 pub cells_from-set : (next : List ℕ) (cell n x y : ℕ) → occurrences x (cells_from next cell n) ≡ 0 → cells_from (set next x y) cell n ≡ cells_from next cell n

@@ -1,6 +1,6 @@
 //! Cells by number, each in one of a fixed number of lists, by the cell after each cell.
 
-ghost use Rattle.std.specs.Prelude.{◌≡◌, ◌≢◌, ◌+◌, ◌^◌, ◌<◌, [], ◌∷◌, length, map, replicate, vec_len, slice_get, IfOk};
+ghost use Rattle.std.specs.Prelude.{◌≡◌, ◌≢◌, ◌+◌, ◌^◌, ◌<◌, [], ◌∷◌, length, map, replicate, vec_len, slice_get, IfNone, IfOk};
 ghost use Rattle.std.specs.List.{range_with_len};
 ghost use Rattle.esa_stash.specs.Ends.{linked, longer, rising_ends, no_ends};
 ghost use Rattle.esa_stash.specs.Links.{IsPartition, list_at, shifted};
@@ -68,6 +68,7 @@ impl Links {
         requires to { to < length self.old.lists }
         requires apart { from ≢ to }
         ensures cell { result ≡ slice_get (list_at self.old.lists from) 0 }
+        ensures none { IfNone result (self.new ≡ self.old) }
         ensures lists { self.new ≡ record self.old { lists = shifted self.old.lists from to } }
         ensures partition { IsPartition self.old.room self.old.lists }
     {
