@@ -1,5 +1,6 @@
 pub mod Arenas
 pub mod Linking
 pub mod Partitions
+pub mod Queues
 pub mod Rising
 pub mod Walks
