@@ -1,4 +1,5 @@
 pub mod Arenas
+pub mod Drawing
 pub mod Linking
 pub mod Partitions
 pub mod Queues

@@ -2,8 +2,11 @@
 #![tactic(auto)]
 
 mod cells;
+mod dealing;
 mod item;
 mod links;
+mod stash;
 
 pub use cells::Cells;
 pub use item::{Item, Kind};
+pub use stash::{Left, Overflow, Stash};
