@@ -1,2 +1,4 @@
+mod Outcomes
 pub mod ValueLemmas
 pub mod Acceptance
+pub mod KeyLemmas

@@ -5,3 +5,4 @@ pub mod Request
 pub mod Refusal
 pub mod Draft
 pub mod Seen
+pub mod Keys

@@ -5,9 +5,11 @@ mod command;
 mod draft;
 mod field;
 mod job;
+mod keys;
 mod value;
 
 pub use command::{Command, command_of};
 pub use field::{JobField, Need};
 pub use job::{Job, JobRefused};
+pub use keys::{KeyField, KeyRing, KeysRefused};
 pub use value::{Draw, Mode};
