@@ -15,35 +15,10 @@ use Rattle.esa_job.specs.declared.field.Need.TheVariants.{Unused, Optional, Need
 use Rattle.esa_job.specs.Refusal.{IsAcceptable, is_missing, is_ill_typed, breaks_rule, is_bad, first_bad, is_past, params_of, first_param_past, first_other_past, first_limit_past}
 use Rattle.esa_job.specs.Request.{Request, is_used, is_needed, value_at, is_there, name_at, number_at, mode_at, list_at, inputs_at}
 use Rattle.esa_job.specs.Table.{fields, kind_of, need_of}
+use Rattle.esa_job.proofs.Outcomes.{both_false, both_true, not-false, not_chosen, is_none-none, none_found}
 use Rattle.esa_job.specs.Values.{accepts, name_in, number_in, mode_in, is_name, is_name_list, holds_names, list_of}
 
--- ---- tests
-
-both_false : (a b : Bool) → (a || b) ≡ false → (a ≡ false) × (b ≡ false)
-both_false true b h = cc
-both_false false b h = (refl, h)
-
-both_true : (a b : Bool) → (a && b) ≡ true → (a ≡ true) × (b ≡ true)
-both_true true b h = (refl, h)
-both_true false b h = cc
-
-not-false : (b : Bool) → not b ≡ false → b ≡ true
-not-false true h = refl
-not-false false h = sym h
-
-not_chosen : {A : Type 0} (test : Bool) (x : A) (rest : Option A) → cond test (Some x) rest ≡ None → (test ≡ false) × (rest ≡ None)
-not_chosen true x rest h = cc
-not_chosen false x rest h = (refl, h)
-
-is_none-none : {A : Type 0} (found : Option A) → is_none found ≡ true → found ≡ None
-is_none-none None h = refl
-is_none-none (Some x) h = cc
-
 -- ---- no field is bad
-
-none_found : {A : Type 0} (test : A → Bool) (xs : List A) → find test xs ≡ None → AllByRecursion (λ x. test x ≡ false) xs
-none_found test [] h = tt
-none_found test (x ∷ xs) h = let parts = not_chosen (test x) x (find test xs) h in (parts.0, none_found test xs parts.1)
 
 -- every field is among those that are looked at
 each_field : (P : JobField → Type 0) → P Job → AllByRecursion P fields → (field : JobField) → P field

@@ -5,3 +5,5 @@ pub mod Request
 pub mod Refusal
 pub mod Draft
 pub mod Seen
+pub mod Keys
+pub mod Drops

@@ -4,6 +4,8 @@ use Rattle.esa_job.specs.declared.command.Command.{Command}
 use Rattle.esa_job.specs.declared.command.Command.TheVariants as command
 use Rattle.esa_job.specs.declared.field.JobField.{JobField}
 use Rattle.esa_job.specs.declared.field.JobField.TheVariants as field
+use Rattle.esa_job.specs.declared.keys.KeyField.{KeyField}
+use Rattle.esa_job.specs.declared.keys.KeyField.TheVariants as key
 
 abbrev pub command_word : Command → List ℕ
 command_word command.Gen = codes "gen"
@@ -51,3 +53,12 @@ field_word field.Attempts = codes "attempts"
 field_word field.M = codes "m"
 field_word field.T = codes "t"
 field_word field.Mode = codes "mode"
+
+abbrev pub key_word : KeyField → List ℕ
+key_word key.Keys = codes "keys"
+key_word key.Outer = codes "outer"
+key_word key.Inner = codes "inner"
+key_word key.Drop = codes "drop"
+key_word key.Run = codes "run"
+key_word key.Share = codes "share"
+key_word key.Second = codes "second"
