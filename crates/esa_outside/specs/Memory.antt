@@ -1,7 +1,7 @@
 -- A cabinet in memory, and its list of files.
 use Rattle.std.specs.Prelude.{◌≡◌, ◌≢◌, ℕ, ◌<◌, List, [], ◌∷◌, length, refl}
 use Rattle.std.specs.Coded.{Coded, code_by, coded×, coded_list, coded_ℕ}
-use Rattle.std.specs.List.{All, AllWithin, HoldsAt}
+use Rattle.std.specs.List.{AllWithin, HoldsAt}
 use Rattle.std.specs.String.{string_bytes}
 use Rattle.std.specs.declared.string.String.{String}
 use Rattle.std.specs.declared.vec.Vec.{Vec}
@@ -27,3 +27,11 @@ pub record IsFirstOf {Y Z : Type 0} (name : List ℕ) (files : List (String Y ×
   pub within : place < length files
   pub named : HoldsAt (λ file. string_bytes file.0 ≡ name) files place
   pub first : AllWithin (λ file. string_bytes file.0 ≢ name) files 0 place
+
+-- the bytes that were printed, and the calls that were made
+pub record PrinterInMemory : Type 0 where
+  pub printed : List ℕ
+  pub calls : Calls
+
+abbrev pub printer_code : Coded PrinterInMemory
+printer_code = code_by (List ℕ × Calls) (coded× (coded_list coded_ℕ) calls_code) (λ p. (p.printed, p.calls)) (λ p. record { printed = p.0; calls = p.1 }) (λ _. refl)

@@ -1,5 +1,5 @@
 -- The first file of the name is what the map has of it.
-use Rattle.std.proofs.Common.{◌≡◌, Some, sym, ap, ◌∙◌}
+use Rattle.std.proofs.Common.{Some, sym, ap, ◌∙◌}
 use Rattle.esa_outside.proofs.FilesOf.{get-files_of-first, get-files_of-none}
 use Rattle.esa_outside.proofs.memory.find.Goals as goal
 

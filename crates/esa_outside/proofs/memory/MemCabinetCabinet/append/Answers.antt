@@ -1,5 +1,5 @@
 -- A failed call leaves the file as it was.
-use Rattle.std.proofs.Common.{◌≡◌, ap, ◌∙◌}
+use Rattle.std.proofs.Common.{ap, ◌∙◌}
 use Rattle.esa_outside.proofs.Fronts.{HoldsFront-unchanged}
 use Rattle.esa_outside.proofs.memory.MemCabinetCabinet.append.Goals as goal
 
