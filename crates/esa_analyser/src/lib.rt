@@ -1,5 +1,9 @@
-//! Counts opened reports into a database.
+//! Counts opened reports into a database, and reads, writes and prints databases.
 #![tactic(auto)]
 
-mod keys;
-pub use keys::{different, sort, add};
+mod db;
+mod refused;
+mod row;
+
+pub use db::{Db, read_db};
+pub use refused::DbRefused;
