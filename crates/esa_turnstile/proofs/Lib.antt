@@ -7,3 +7,6 @@ pub mod Counts
 pub mod Advances
 pub mod Reseated
 pub mod Notes
+pub mod Dealing
+pub mod Closing
+pub mod Gathering

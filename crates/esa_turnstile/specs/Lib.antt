@@ -4,3 +4,4 @@ pub mod Lock
 pub mod Steps
 pub mod Passes
 pub mod Closing
+pub mod Rolls

@@ -8,9 +8,13 @@
 mod logged;
 mod pass;
 mod plays;
+mod roll;
+mod rounds;
 mod turnstile;
 mod view;
 
 pub use logged::Logged;
 pub use pass::{Held, Pass};
+pub use roll::Roll;
+pub use rounds::{go_round, go_rounds, two_workers};
 pub use turnstile::{NoTurnstile, Opened, Turnstile};

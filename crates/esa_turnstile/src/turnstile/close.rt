@@ -3,6 +3,7 @@ ghost use Rattle.std.specs.Prelude.{◌≡◌, ◌≤◌, ◌<◌, ℕ, [], leng
 ghost use mathlib.Core.List.{IsPrefix};
 ghost use Rattle.esa_turnstile.specs.declared.view.Stage.TheVariants.{Outside};
 ghost use Rattle.esa_turnstile.specs.Entries.{times};
+ghost use Rattle.esa_turnstile.specs.Views.{note_of, joined};
 ghost use Rattle.esa_turnstile.specs.Closing.{Knows, IsSettled};
 ghost use Rattle.esa_turnstile.specs.Passes.{passes_of, tickets_of, opened_of, IsSeatOf, IsPassOf, IsOutside, number_of, seen_of, mark_of, added_of};
 
@@ -43,13 +44,35 @@ impl<T: Logged> Turnstile<T> {
         let Some(last) = passes.pop() else {
             unreachable!()
         };
-        let mut last = last.into_seat();
-        let mut seat = self.note(&mut last);
-        self.join(&mut seat, last);
+        let mut seat = self.first(last);
         while let Some(next) = passes.pop() {
-            self.join(&mut seat, next.into_seat());
+            self.take_in(&mut seat, next);
         }
         seat
+    }
+
+    // A seat that stands for this pass, and has heard of what it had seen.
+    fn first(&self, pass: Pass<T>) -> Place<T>
+        requires pass { IsPassOf self.now pass × IsOutside pass }
+        ensures table { IsSeatOf self.now result }
+        ensures outside { (result.me.0.stage ≡ Outside) × (result.me.1 ≡ []) }
+        ensures both { result.me.0 ≡ joined (note_of pass.seat.me.0) pass.seat.me.0 }
+    {
+        let mut other = pass.into_seat();
+        let mut seat = self.note(&mut other);
+        self.join(&mut seat, other);
+        seat
+    }
+
+    fn take_in(&self, seat: &mut Place<T>, pass: Pass<T>)
+        requires table { IsSeatOf self.now seat.old }
+        requires outside { (seat.old.me.0.stage ≡ Outside) × (seat.old.me.1 ≡ []) }
+        requires pass { IsPassOf self.now pass × IsOutside pass }
+        ensures table { IsSeatOf self.now seat.new }
+        ensures outside { (seat.new.me.0.stage ≡ Outside) × (seat.new.me.1 ≡ []) }
+        ensures both { seat.new.me.0 ≡ joined seat.old.me.0 pass.seat.me.0 }
+    {
+        self.join(seat, pass.into_seat());
     }
 
     // Nobody else has a seat.

@@ -50,7 +50,7 @@ impl<T: Logged> Turnstile<T> {
     fn hear(&self, seat: &mut Place<T>)
         requires table { IsSeatOf self.now seat.old }
         ensures same { IsSameSeat seat.old seat.new × (seat.new.me ≡ seat.old.me) }
-        ensures heard { HasHeard seat.old.me.0 }
+        ensures heard { HasHeard seat.new.me.0 }
     {
         self.table.shared.load::<Hear>(seat, SERVED);
     }
