@@ -4,4 +4,5 @@ pub mod Linking
 pub mod Partitions
 pub mod Queues
 pub mod Rising
+pub mod TotalLemmas
 pub mod Walks
