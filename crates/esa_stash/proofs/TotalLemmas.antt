@@ -10,7 +10,7 @@ use Rattle.esa_stash.specs.Links.{occurrences}
 use Rattle.esa_stash.specs.Dealing.{arrivals}
 use Rattle.esa_stash.proofs.Partitions.{occurrences-cons, occurrences-append}
 
-range-more : (a n : ℕ) → range_with_len a (suc n) ≡ range_with_len a n ++ (a + n) ∷ []
+pub range-more : (a n : ℕ) → range_with_len a (suc n) ≡ range_with_len a n ++ (a + n) ∷ []
 range-more a zero = ap (λ (k : ℕ). k ∷ []) (omega arith)
 range-more a (suc n) =
     let same : a + 1 + n ≡ a + suc n = omega arith in
