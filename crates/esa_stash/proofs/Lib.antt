@@ -1,7 +1,10 @@
 pub mod Arenas
+pub mod Dealt
 pub mod Drawing
 pub mod Linking
 pub mod Partitions
 pub mod Queues
 pub mod Rising
+pub mod Rows
+pub mod TotalLemmas
 pub mod Walks

@@ -1,7 +1,9 @@
 -- An exchange at work: what stands in the queues, the chunks and the counts once each target's line is dealt out.
-use Rattle.std.specs.Prelude.{◌≡◌, ℕ, ◌+◌, ◌*◌, ◌<◌, ◌==◌, List, [], ◌∷◌, ◌++◌, length, take, drop, if◌then◌else◌, slice_index, slice_index_or, slice_set, slice_range}
+use Rattle.std.specs.Prelude.{◌≡◌, ℕ, ◌+◌, ◌-◌, ◌*◌, ◌<◌, ◌==◌, List, [], ◌∷◌, ◌++◌, length, take, drop, if◌then◌else◌, slice_index, slice_index_or, slice_set, slice_range}
 use Rattle.esa_stash.specs.declared.item.Item.{Item}
-use Rattle.esa_stash.specs.Arena.{Arena, queues_of}
+use Rattle.esa_spec.specs.Draws.{chosen}
+use Rattle.esa_stash.specs.Links.{occurrences}
+use Rattle.esa_stash.specs.Arena.{Arena, queues_of, chain_at}
 use Rattle.esa_stash.specs.Stash.{padded}
 
 -- the items of a chain, in order
@@ -30,3 +32,19 @@ AreDealt b c line arena chunks counts = (i : ℕ) → i < b → IsDealt c (line 
 -- lines with an item behind one of them
 abbrev pub with_item : (ℕ → List Item) → ℕ → Item → ℕ → List Item
 with_item line target item i = if i == target then line i ++ item ∷ [] else line i
+
+-- how often each target comes
+abbrev pub arrivals : List ℕ → ℕ → ℕ
+arrivals targets i = occurrences i targets
+
+-- the line of a target once so many items came: its queue, and the items behind it
+abbrev pub line_after : Arena → List ℕ → List Item → ℕ → List Item
+line_after arena targets items i = queue_of arena i ++ chosen i targets items
+
+-- how many of a target's line stay, by the lengths alone
+abbrev pub left_after : Arena → ℕ → List ℕ → ℕ → ℕ
+left_after arena c arriving i = (length (chain_at arena i) + slice_index arriving i) - c
+
+-- how many of it stay, by its items
+abbrev pub left_of : ℕ → (ℕ → List Item) → ℕ → ℕ
+left_of c line i = length (drop c (line i))

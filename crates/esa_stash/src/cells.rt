@@ -45,6 +45,14 @@ impl Cells {
         Ok(Cells { links, items })
     }
 
+    /// How many cells there are.
+    pub fn room(&self) -> u32
+        ensures room { result ≡ self.now.room }
+        ensures shared { IsShared self.now }
+    {
+        self.links.room()
+    }
+
     /// How many cells are free.
     pub fn free(&self) -> u32
         ensures free { result ≡ length self.now.free }
@@ -66,6 +74,7 @@ impl Cells {
     pub fn push(&mut self, chain: u32, item: Item) -> bool
         requires { chain < length self.old.chains }
         ensures room { IsTrue result ↔ (0 < length self.old.free) }
+        ensures shared { IsShared self.old }
         ensures pushed { OnTrue result (self.new ≡ pushed self.old chain item) }
         ensures full { OnFalse result (self.new ≡ self.old) }
     {

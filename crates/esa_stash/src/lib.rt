@@ -6,6 +6,7 @@ mod dealing;
 mod item;
 mod links;
 mod stash;
+mod totals;
 
 pub use cells::Cells;
 pub use item::{Item, Kind};

@@ -53,6 +53,14 @@ impl Links {
         Ok(Links { next, lists })
     }
 
+    /// How many cells there are.
+    pub fn room(&self) -> u32
+        ensures room { result ≡ self.now.room }
+        ensures partition { IsPartition self.now.room self.now.lists }
+    {
+        self.next.len() as u32
+    }
+
     /// The length of a list.
     pub fn length(&self, list: usize) -> u32
         requires { list < length self.now.lists }
