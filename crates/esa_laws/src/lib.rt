@@ -4,7 +4,9 @@
 //! crate stands on the definitions alone, and takes no memory.
 #![tactic(auto)]
 
+pub mod completions;
 pub mod lines;
 pub mod queues;
+pub mod rounds;
 pub mod spreads;
 pub mod turns;
