@@ -32,11 +32,11 @@ one_more lines entries place left rest number below full so_far good goes_on =
     let wanted : 256 - place ≡ suc (256 - (place + 1)) = omega arith in
     let inside : place < length entries = omega arith in
     let next : drops_in (take (256 - place) left) ≡ number ∷ drops_in (take (256 - (place + 1)) rest) =
-        ap (λ n. drops_in (take n left)) wanted
-        ∙ first_good (256 - (place + 1)) left number (sym good)
-        ∙ ap (λ lines. number ∷ drops_in (take (256 - (place + 1)) lines)) goes_on in
+    ap (λ n. drops_in (take n left)) wanted
+    ∙ first_good (256 - (place + 1)) left number (sym good)
+    ∙ ap (λ lines. number ∷ drops_in (take (256 - (place + 1)) lines)) goes_on in
     let front : take (place + 1) (set entries place number) ≡ take place entries ++ (number ∷ []) =
-        ap (λ n. take n (set entries place number)) (add-one place) ∙ take-suc-set entries place number inside in
+    ap (λ n. take n (set entries place number)) (add-one place) ∙ take-suc-set entries place number inside in
     let count : length left ≡ 1 + length rest = one_less left number (sym good) ∙ ap (λ lines. 1 + length lines) goes_on in
     record {
       drops = so_far.drops ∙ ap (λ more. take place entries ++ more) next ∙ sym (append_snoc (take place entries) number _) ∙ ap (λ done. done ++ drops_in (take (256 - (place + 1)) rest)) (sym front);
