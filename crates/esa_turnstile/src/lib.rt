@@ -16,5 +16,5 @@ mod view;
 pub use logged::Logged;
 pub use pass::{Held, Pass};
 pub use roll::Roll;
-pub use rounds::{go_round, go_rounds, two_workers};
+pub use rounds::{all_rounds, go_round, go_rounds, two_workers, workers};
 pub use turnstile::{NoTurnstile, Opened, Turnstile};
