@@ -44,5 +44,5 @@ pub two-numbers : (log : List ℕ) → All (λ y. y < 2) log → length log ≡ 
 two-numbers [] h = refl
 two-numbers (y ∷ ys) h =
     two-cases y (length ys) (times 0 ys) (times 1 ys) (All-head (λ (z : ℕ). z < 2) y ys h) (two-numbers ys (All-tail (λ (z : ℕ). z < 2) y ys h))
-        ∙ sym (let a : times 0 (y ∷ ys) ≡ cond (eqb y 0) 1 0 + times 0 ys = sum_by-cons (λ (z : ℕ). cond (eqb z 0) 1 0) y ys in
-            let b : times 1 (y ∷ ys) ≡ cond (eqb y 1) 1 0 + times 1 ys = sum_by-cons (λ (z : ℕ). cond (eqb z 1) 1 0) y ys in omega arith)
+    ∙ sym (let a : times 0 (y ∷ ys) ≡ cond (eqb y 0) 1 0 + times 0 ys = sum_by-cons (λ (z : ℕ). cond (eqb z 0) 1 0) y ys in
+    let b : times 1 (y ∷ ys) ≡ cond (eqb y 1) 1 0 + times 1 ys = sum_by-cons (λ (z : ℕ). cond (eqb z 1) 1 0) y ys in omega arith)

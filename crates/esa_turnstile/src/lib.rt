@@ -10,6 +10,8 @@ mod pass;
 mod plays;
 mod roll;
 mod rounds;
+#[cfg(test)]
+mod tests;
 mod turnstile;
 mod view;
 

@@ -51,9 +51,12 @@ pub fn all_rounds<R: Threads + Wait + Sync>(
     ensures { (k : ℕ) (d : _) → k < length passes.old → Goes turnstile.now turns (slice_index_or passes.old k d) (slice_index_or passes.new k d) }
 {
     let threads = passes.len().max(1);
-    thread::for_each_mut(rt, passes, threads, &|_, pass| {
-        go_rounds(rt, turnstile, pass, turns)
-    });
+    thread::for_each_mut(
+        rt,
+        passes,
+        threads,
+        &|_, pass| { go_rounds(rt, turnstile, pass, turns) },
+    );
 }
 
 /// So many workers enter `turns` times each. Then the number of each stands in the roll so often, and no other.
