@@ -120,7 +120,7 @@ module _ {T O : Type 0} (log_of : T → List ℕ) (origin : T → O) (IsSound : 
   others-outside : (s : St) (k : K s) (id : ℕ) (v : View T) → get_elem? s.views id ≡ some v → is_inside v.stage ≡ true → (j : ℕ) (u : View T) → j ≢ id → get_elem? s.views j ≡ some u → is_inside u.stage ≡ false
   others-outside s k id v at inside j u ne e = ⊎_elim
       (λ (yes : is_inside u.stage ≡ true). absurd (ne (k.alone j id u v e at (inside-held u.stage yes) (inside-held v.stage inside)
-          (inside-ticket k.log k.marks k.drawn u.stage (k.fits j u e).stage yes ∙ sym (inside-ticket k.log k.marks k.drawn v.stage (k.fits id v at).stage inside)))))
+      (inside-ticket k.log k.marks k.drawn u.stage (k.fits j u e).stage yes ∙ sym (inside-ticket k.log k.marks k.drawn v.stage (k.fits id v at).stage inside)))))
       (λ (no : is_inside u.stage ≡ false). no) (cases_Bool (is_inside u.stage))
 
   given : (s : St) (k : K s) (id n : ℕ) (v : View T) (x : T) → get_elem? s.views id ≡ some v → n ≡ length k.log → is_inside v.stage ≡ true → length v.members ≡ 1
@@ -146,35 +146,35 @@ module _ {T O : Type 0} (log_of : T → List ℕ) (origin : T → O) (IsSound : 
       let fits : n + 1 < 2 ^ 64 = omega arith in
       let next : (n + 1) % 2 ^ 64 ≡ length log' = mod-eq_of_lt fits ∙ (ap (λ (z : ℕ). z + 1) is ∙ sym longer) in
       rebuilt log_of origin IsSound mark about s k id v w (set s.words 1 ((n + 1) % 2 ^ 64)) (set s.homes 0 (some (Some x))) log' marks' d at
-          (ap (λ (z : List ℕ). set z 1 ((n + 1) % 2 ^ 64)) k.words ∙ ap (λ (z : ℕ). d ∷ z ∷ []) next)
-          (omega arith) refl (raised-length v.members) (λ y. raised-bears y v.members)
-          (All-push (λ (y : ℕ). y < about.passes) log N k.named counted.below)
-          (λ y. dite (ℕ_discrete N y)
-              (λ (e : N ≡ y). subst (λ (z : ℕ). times z log' ≤ about.tickets) e (omega arith))
-              (λ (ne : N ≢ y). let b = k.bounded y in omega (arith, times-push_other y log N ne)))
-          (λ i j le. then-rises k.marks l m k.rises (let q = now.2 in omega arith) i j le (dec_le i l) (dec_le j l))
-          (λ j u ne e. fits-next log N m k.marks d u (k.fits j u e) (let t = two-le-sum (bearers N) s.views j id u v ne e at in let o = k.once N in omega arith)
-              (λ held_u mine. ne (k.alone j id u v e at held_u holds (mine ∙ sym turn))))
-          record {
-            told = told-new v.about (v.seen.mark ≡ k.marks (length v.seen.entries)) (m ≡ marks' (length (log_of x))) (marked ∙ ap (λ (z : List ℕ). marks' (length z)) (sym same)) f.told;
-            begins = subst (λ (z : List ℕ). IsPrefix z log') (sym same) (prefix-refl log');
-            heard = All-nil (IsEarlier marks' (log_of x));
-            share = let sh = f.share in let e = raised-added v.members in let r : about.tickets * length (raised v.members) ≡ about.tickets * length v.members = ap (λ (z : ℕ). about.tickets * z) (raised-length v.members) in omega arith;
-            counts = subst (All (IsCounted about.passes log' (log_of x))) (ap raised (sym alone))
-                (All-cons (IsCounted about.passes log' (log_of x)) (record { number = N; added = A + 1 }) [] (record { below = counted.below; in_log = more; in_seen = ap (times N) same ∙ more }) (All-nil (IsCounted about.passes log' (log_of x))));
-            single = λ h. absurd (omega arith);
-            stage = tt;
-          }
-          (λ j u ne e h held_u same. absurd (omega arith))
-          (inl record {
-            value = x;
-            there = ap (λ z. set z 0 (some (Some x))) (slot-empty s k id v at inside);
-            log_is = same;
-            origin_is = origin_is;
-            sound = sound;
-            mark_is = marked;
-            nobody = λ i u e. ⊎_elim (λ (t : (i ≡ id) × (w ≡ u)). ap (λ (z : View T). is_inside z.stage) (sym t.1)) (λ (t : (i ≢ id) × (get_elem? s.views i ≡ some u)). others-outside s k id v at inside i u t.0 t.1) (at_set s.views id i w u e);
-          })
+      (ap (λ (z : List ℕ). set z 1 ((n + 1) % 2 ^ 64)) k.words ∙ ap (λ (z : ℕ). d ∷ z ∷ []) next)
+      (omega arith) refl (raised-length v.members) (λ y. raised-bears y v.members)
+      (All-push (λ (y : ℕ). y < about.passes) log N k.named counted.below)
+      (λ y. dite (ℕ_discrete N y)
+      (λ (e : N ≡ y). subst (λ (z : ℕ). times z log' ≤ about.tickets) e (omega arith))
+      (λ (ne : N ≢ y). let b = k.bounded y in omega (arith, times-push_other y log N ne)))
+      (λ i j le. then-rises k.marks l m k.rises (let q = now.2 in omega arith) i j le (dec_le i l) (dec_le j l))
+      (λ j u ne e. fits-next log N m k.marks d u (k.fits j u e) (let t = two-le-sum (bearers N) s.views j id u v ne e at in let o = k.once N in omega arith)
+      (λ held_u mine. ne (k.alone j id u v e at held_u holds (mine ∙ sym turn))))
+      record {
+        told = told-new v.about (v.seen.mark ≡ k.marks (length v.seen.entries)) (m ≡ marks' (length (log_of x))) (marked ∙ ap (λ (z : List ℕ). marks' (length z)) (sym same)) f.told;
+        begins = subst (λ (z : List ℕ). IsPrefix z log') (sym same) (prefix-refl log');
+        heard = All-nil (IsEarlier marks' (log_of x));
+        share = let sh = f.share in let e = raised-added v.members in let r : about.tickets * length (raised v.members) ≡ about.tickets * length v.members = ap (λ (z : ℕ). about.tickets * z) (raised-length v.members) in omega arith;
+        counts = subst (All (IsCounted about.passes log' (log_of x))) (ap raised (sym alone))
+            (All-cons (IsCounted about.passes log' (log_of x)) (record { number = N; added = A + 1 }) [] (record { below = counted.below; in_log = more; in_seen = ap (times N) same ∙ more }) (All-nil (IsCounted about.passes log' (log_of x))));
+        single = λ h. absurd (omega arith);
+        stage = tt;
+      }
+      (λ j u ne e h held_u same. absurd (omega arith))
+      (inl record {
+        value = x;
+        there = ap (λ z. set z 0 (some (Some x))) (slot-empty s k id v at inside);
+        log_is = same;
+        origin_is = origin_is;
+        sound = sound;
+        mark_is = marked;
+        nobody = λ i u e. ⊎_elim (λ (t : (i ≡ id) × (w ≡ u)). ap (λ (z : View T). is_inside z.stage) (sym t.1)) (λ (t : (i ≢ id) × (get_elem? s.views i ≡ some u)). others-outside s k id v at inside i u t.0 t.1) (at_set s.views id i w u e);
+      })
 
   pub advances : (slots id : ℕ) (me : Me (Option T) (View T)) (x : T) → is_inside me.0.stage ≡ true → me.1 ≡ (0, Some x) ∷ [] → length me.0.members ≡ 1
       → log_of x ≡ (latest me.0).entries ++ first_number me.0.members ∷ [] → IsSound x → origin x ≡ origin about.opened.value → (latest me.0).mark ≤ mark x

@@ -41,9 +41,9 @@ module _ {T O : Type 0} (log_of : T → List ℕ) (origin : T → O) (IsSound : 
   home-alone : (s : St) (k : K s) (id : ℕ) (v : V) → get_elem? s.views id ≡ some v → v.stage ≡ Outside → length v.members ≡ about.passes → IsHome log_of origin IsSound mark about k.log k.marks s
   home-alone s k id v at out all = ⊎_elim (λ (h : IsHome log_of origin IsSound mark about k.log k.marks s). h)
       (λ (a : IsAway log_of origin IsSound mark s).
-          let ne : a.who ≢ id = λ same. true≢false (sym a.inside ∙ (ap (λ (z : V). is_inside z.stage) (some-injective _ _ (sym a.at ∙ (ap (get_elem? s.views) same ∙ at))) ∙ ap is_inside out)) in
-          let one : length a.with_view.members ≡ 1 = (k.fits a.who a.with_view a.at).single (inside-held a.with_view.stage a.inside) in
-          let two = two-le-sum members_in s.views a.who id a.with_view v ne a.at at in let w = k.whole in absurd (omega arith))
+      let ne : a.who ≢ id = λ same. true≢false (sym a.inside ∙ (ap (λ (z : V). is_inside z.stage) (some-injective _ _ (sym a.at ∙ (ap (get_elem? s.views) same ∙ at))) ∙ ap is_inside out)) in
+      let one : length a.with_view.members ≡ 1 = (k.fits a.who a.with_view a.at).single (inside-held a.with_view.stage a.inside) in
+      let two = two-le-sum members_in s.views a.who id a.with_view v ne a.at at in let w = k.whole in absurd (omega arith))
       k.slot
 
   told-of : (o : Option (About T)) (P : About T → Type 0) (a : About T) → o ≡ Some a → IfSome o P → P a

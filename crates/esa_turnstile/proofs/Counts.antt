@@ -16,7 +16,7 @@ pub found-after : {T : Type 0} (n t : ℕ) (v w u : View T) (s : Sight) → v.me
     → All (λ m. times m.number s.entries ≡ m.added) w.members → times n (latest u).entries ≡ first_added u.members
 found-after {T} n t v w u s alone drew got h =
     subst (λ (z : View T). times n (latest z).entries ≡ first_added z.members) (sym got)
-        (own n s.entries w.members (subst (λ (z : View T). z.members ≡ one n (first_added z.members)) (sym drew) alone) h)
+    (own n s.entries w.members (subst (λ (z : View T). z.members ≡ one n (first_added z.members)) (sym drew) alone) h)
 
 all-right : (P : Sight → Type 0) (xs ys : List Sight) → All P (xs ++ ys) → All P ys
 all-right P [] ys h = h

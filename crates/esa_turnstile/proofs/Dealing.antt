@@ -119,8 +119,7 @@ module _ {T O : Type 0} (log_of : T → List ℕ) (origin : T → O) (IsSound : 
   dealt-fits : (k : ℕ) → k < about.passes → (log : List ℕ) (marks : ℕ → ℕ) (drawn : ℕ) → Fits about log marks drawn (dealing mark about k) → Fits about log marks drawn (dealing mark about (k + 1)) × Fits about log marks drawn (dealt mark about k)
   dealt-fits k lt log marks drawn f =
       let q : ℕ = about.passes - (k + 1) in let P : Member → Type 0 = IsCounted about.passes log [] in
-      let all : All P (record { number = k; added = 0 } ∷ fresh_from (k + 1) q) = subst (All P) (fresh-step about.passes k lt) f.counts in
-      (
+      let all : All P (record { number = k; added = 0 } ∷ fresh_from (k + 1) q) = subst (All P) (fresh-step about.passes k lt) f.counts in (
         record {
           told = f.told;
           begins = f.begins;
@@ -145,13 +144,13 @@ module _ {T O : Type 0} (log_of : T → List ℕ) (origin : T → O) (IsSound : 
   deals id k v lt is =
       let p : ℕ = about.passes in let t : ℕ = about.tickets in let q : ℕ = p - (k + 1) in let s : p - k ≡ suc q = omega arith in
       subst (λ (z : V). Splits K id z (rest_of z) (one_of z)) (sym is)
-          (subst (λ (z : V). Splits K id (dealing mark about k) z (one_of (dealing mark about k))) (sym (rest-is k lt))
-              (subst (λ (z : V). Splits K id (dealing mark about k) (dealing mark about (k + 1)) z) (sym (one-is k lt))
-                  (splits log_of origin IsSound mark about id (dealing mark about k) (dealing mark about (k + 1)) (dealt mark about k) refl refl refl
-                      (let e : t * (p - k) ≡ t * q + t = ap (λ (z : ℕ). t * z) s ∙ mul-suc t q in omega arith)
-                      (let a = fresh-length k (p - k) in let b = fresh-length (k + 1) q in omega arith)
-                      (λ x. let e : bearers x (dealing mark about k) ≡ cond (eqb k x) 1 0 + count_by (bears x) (fresh_from (k + 1) q) = ap (λ (z : ℕ). count_by (bears x) (fresh_from k z)) s ∙ bears-cons x k q in omega arith)
-                      (dealt-fits k lt))))
+      (subst (λ (z : V). Splits K id (dealing mark about k) z (one_of (dealing mark about k))) (sym (rest-is k lt))
+      (subst (λ (z : V). Splits K id (dealing mark about k) (dealing mark about (k + 1)) z) (sym (one-is k lt))
+      (splits log_of origin IsSound mark about id (dealing mark about k) (dealing mark about (k + 1)) (dealt mark about k) refl refl refl
+      (let e : t * (p - k) ≡ t * q + t = ap (λ (z : ℕ). t * z) s ∙ mul-suc t q in omega arith)
+      (let a = fresh-length k (p - k) in let b = fresh-length (k + 1) q in omega arith)
+      (λ x. let e : bearers x (dealing mark about k) ≡ cond (eqb k x) 1 0 + count_by (bears x) (fresh_from (k + 1) q) = ap (λ (z : ℕ). count_by (bears x) (fresh_from k z)) s ∙ bears-cons x k q in omega arith)
+      (dealt-fits k lt))))
 
   pub starts-with : (value : T) (xs : List (Option T)) → about.opened.value ≡ value → xs ≡ Some value ∷ [] → log_of value ≡ [] → IsSound value → about.passes * about.tickets < 2 ^ 64
       → K (opening (0 ∷ 0 ∷ []) xs (dealing mark about 0))

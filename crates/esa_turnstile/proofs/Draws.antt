@@ -35,20 +35,20 @@ module _ {T O : Type 0} (log_of : T → List ℕ) (origin : T → O) (IsSound : 
       let fits : n + 1 < 2 ^ 64 = omega arith in
       let next : (n + 1) % 2 ^ 64 ≡ d + 1 = mod-eq_of_lt fits ∙ ap (λ (z : ℕ). z + 1) is in
       rebuilt log_of origin IsSound mark about s k id v w (set s.words 0 ((n + 1) % 2 ^ 64)) s.homes k.log k.marks (d + 1) at
-          (ap (λ (z : List ℕ). set z 0 ((n + 1) % 2 ^ 64)) k.words ∙ ap (λ (z : ℕ). z ∷ l ∷ []) next)
-          (omega arith) (omega arith) refl (λ x. refl) k.named k.bounded k.rises
-          (λ j u _ e. fits-more k.log k.marks d u (k.fits j u e))
-          record {
-            told = f.told;
-            begins = f.begins;
-            heard = f.heard;
-            share = let sh = f.share in omega arith;
-            counts = f.counts;
-            single = λ _. single;
-            stage = (omega arith, omega arith);
-          }
-          (λ j u _ e _ h same. let b = ticket-below k.log k.marks d u.stage (k.fits j u e).stage h in omega arith)
-          (same-slot log_of origin IsSound mark about s k.log k.marks id v w (set s.words 0 ((n + 1) % 2 ^ 64)) at (ap is_inside out) refl k.slot)
+      (ap (λ (z : List ℕ). set z 0 ((n + 1) % 2 ^ 64)) k.words ∙ ap (λ (z : ℕ). z ∷ l ∷ []) next)
+      (omega arith) (omega arith) refl (λ x. refl) k.named k.bounded k.rises
+      (λ j u _ e. fits-more k.log k.marks d u (k.fits j u e))
+      record {
+        told = f.told;
+        begins = f.begins;
+        heard = f.heard;
+        share = let sh = f.share in omega arith;
+        counts = f.counts;
+        single = λ _. single;
+        stage = (omega arith, omega arith);
+      }
+      (λ j u _ e _ h same. let b = ticket-below k.log k.marks d u.stage (k.fits j u e).stage h in omega arith)
+      (same-slot log_of origin IsSound mark about s k.log k.marks id v w (set s.words 0 ((n + 1) % 2 ^ 64)) at (ap is_inside out) refl k.slot)
 
   pub draws : (slots id : ℕ) (me : Me (Option T) (View T)) → me.0.stage ≡ Outside → length me.0.members ≡ 1 → 0 < me.0.left
       → Allows K slots id me 0 (λ n. (n + 1) % 2 ^ 64) (Draws (step slots 0 1 0 none) me)

@@ -10,3 +10,4 @@ pub mod Notes
 pub mod Dealing
 pub mod Closing
 pub mod Gathering
+pub mod EachNumber

@@ -54,10 +54,10 @@ module _ {T O : Type 0} (log_of : T → List ℕ) (origin : T → O) (IsSound : 
   home-now : (s : St) (k : K s) (id : ℕ) (v : View T) → get_elem? s.views id ≡ some v → held v.stage ≡ 1 → is_inside v.stage ≡ false → ticket v.stage ≡ length k.log → IsHome log_of origin IsSound mark about k.log k.marks s
   home-now s k id v at holds waits mine = ⊎_elim (λ (h : IsHome log_of origin IsSound mark about k.log k.marks s). h)
       (λ (a : IsAway log_of origin IsSound mark s).
-          let same : a.who ≡ id = k.alone a.who id a.with_view v a.at at (inside-held a.with_view.stage a.inside) holds
-              (inside-ticket k.log k.marks k.drawn a.with_view.stage (k.fits a.who a.with_view a.at).stage a.inside ∙ sym mine) in
-          let view : a.with_view ≡ v = some-injective _ _ (sym a.at ∙ (ap (get_elem? s.views) same ∙ at)) in
-          absurd (true≢false (sym a.inside ∙ (ap (λ (z : View T). is_inside z.stage) view ∙ waits))))
+      let same : a.who ≡ id = k.alone a.who id a.with_view v a.at at (inside-held a.with_view.stage a.inside) holds
+      (inside-ticket k.log k.marks k.drawn a.with_view.stage (k.fits a.who a.with_view a.at).stage a.inside ∙ sym mine) in
+      let view : a.with_view ≡ v = some-injective _ _ (sym a.at ∙ (ap (get_elem? s.views) same ∙ at)) in
+      absurd (true≢false (sym a.inside ∙ (ap (λ (z : View T). is_inside z.stage) view ∙ waits))))
       k.slot
 
   taken : (s : St) (k : K s) (id n : ℕ) (v : View T) → get_elem? s.views id ≡ some v → held v.stage ≡ 1 → n ≡ length k.log → ticket v.stage ≡ length k.log
@@ -67,20 +67,20 @@ module _ {T O : Type 0} (log_of : T → List ℕ) (origin : T → O) (IsSound : 
       let below = ticket-below k.log k.marks d v.stage f.stage holds in
       let now : ticket w.stage ≡ ticket v.stage = ap length h.log_is ∙ sym mine in
       rebuilt log_of origin IsSound mark about s k id v w (set s.words 1 n) (set s.homes 0 none) k.log k.marks d at
-          (ap (λ (z : List ℕ). set z 1 n) k.words ∙ ap (λ (z : ℕ). d ∷ z ∷ []) is)
-          (omega arith) refl refl (λ x. refl) k.named k.bounded k.rises
-          (λ j u _ e. k.fits j u e)
-          record {
-            told = f.told;
-            begins = f.begins;
-            heard = f.heard;
-            share = let sh = f.share in omega arith;
-            counts = f.counts;
-            single = λ _. f.single holds;
-            stage = (omega arith, h.log_is, h.mark_is);
-          }
-          (λ j u ne e _ held_u same. ne (sym (k.alone id j v u at e holds held_u (sym now ∙ same))))
-          (inr record { gone = ap (λ z. set z 0 none) h.there; who = id; with_view = w; at = set_here s.views id w (at-below s.views id v at); inside = refl })
+      (ap (λ (z : List ℕ). set z 1 n) k.words ∙ ap (λ (z : ℕ). d ∷ z ∷ []) is)
+      (omega arith) refl refl (λ x. refl) k.named k.bounded k.rises
+      (λ j u _ e. k.fits j u e)
+      record {
+        told = f.told;
+        begins = f.begins;
+        heard = f.heard;
+        share = let sh = f.share in omega arith;
+        counts = f.counts;
+        single = λ _. f.single holds;
+        stage = (omega arith, h.log_is, h.mark_is);
+      }
+      (λ j u ne e _ held_u same. ne (sym (k.alone id j v u at e holds held_u (sym now ∙ same))))
+      (inr record { gone = ap (λ z. set z 0 none) h.there; who = id; with_view = w; at = set_here s.views id w (at-below s.views id v at); inside = refl })
 
   pub looks : (slots id t : ℕ) (me : Me (Option T) (View T)) → me.0.stage ≡ Waiting t
       → Allows K slots id me 1 (λ n. n) (Looks log_of origin IsSound mark (step slots 1 0 0 none) me)
@@ -90,16 +90,16 @@ module _ {T O : Type 0} (log_of : T → List ℕ) (origin : T → O) (IsSound : 
       let holds : held v.stage ≡ 1 = ap held waits in
       let room : length k.log < about.passes * about.tickets = let b = ticket-below k.log k.marks k.drawn v.stage f.stage holds in let q = k.queue in let p = k.supply in let i = subst (InStage k.log k.marks k.drawn) waits f.stage in omega arith in
       dite (ℕ_discrete n (ticket v.stage))
-          (λ (hit : n ≡ ticket v.stage).
-              let mine : ticket v.stage ≡ length k.log = sym hit ∙ is in
-              let h = home-now s k id v at holds (ap is_inside waits) mine in (
-                entered v (sight_of log_of mark h.value),
-                takes 0 (Some h.value),
-                ap (λ z. get_elem? z 0) h.there,
-                taken s k id n v at holds is mine h,
-                ((λ _. (h.value, refl, λ a e. let q = told-of v.about _ a e f.told in found-for v h.value a q.0 (found-home s k v f q.1 room h))), λ miss. absurd (miss hit)),
-              ))
-          (λ (miss : n ≢ ticket v.stage). (v, keeps, tt, stays log_of origin IsSound mark about s k id n v at is, ((λ hit. absurd (miss hit)), λ _. refl)))
+      (λ (hit : n ≡ ticket v.stage).
+      let mine : ticket v.stage ≡ length k.log = sym hit ∙ is in
+      let h = home-now s k id v at holds (ap is_inside waits) mine in (
+        entered v (sight_of log_of mark h.value),
+        takes 0 (Some h.value),
+        ap (λ z. get_elem? z 0) h.there,
+        taken s k id n v at holds is mine h,
+        ((λ _. (h.value, refl, λ a e. let q = told-of v.about _ a e f.told in found-for v h.value a q.0 (found-home s k v f q.1 room h))), λ miss. absurd (miss hit)),
+      ))
+      (λ (miss : n ≢ ticket v.stage). (v, keeps, tt, stays log_of origin IsSound mark about s k id n v at is, ((λ hit. absurd (miss hit)), λ _. refl)))
 
 abbrev first-slot : {T : Type 0} → Option T → List (ℕ × Option T) → Option T
 first-slot d [] = d

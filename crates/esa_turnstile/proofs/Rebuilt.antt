@@ -96,13 +96,13 @@ module _ {T O : Type 0} (log_of : T → List ℕ) (origin : T → O) (IsSound : 
     queue = let t = sum-set held_in s.views id v w at in let q = k.queue in omega arith;
     alone = λ i j a b e g h l same. ⊎_elim
         (λ (p : (i ≡ id) × (w ≡ a)). ⊎_elim
-            (λ (q : (j ≡ id) × (w ≡ b)). p.0 ∙ sym q.0)
-            (λ (q : (j ≢ id) × (get_elem? s.views j ≡ some b)). absurd (apart j b q.0 q.1 (ap held_in p.1 ∙ h) l (ap (λ (z : View T). ticket z.stage) p.1 ∙ same)))
-            (at_set s.views id j w b g))
+        (λ (q : (j ≡ id) × (w ≡ b)). p.0 ∙ sym q.0)
+        (λ (q : (j ≢ id) × (get_elem? s.views j ≡ some b)). absurd (apart j b q.0 q.1 (ap held_in p.1 ∙ h) l (ap (λ (z : View T). ticket z.stage) p.1 ∙ same)))
+        (at_set s.views id j w b g))
         (λ (p : (i ≢ id) × (get_elem? s.views i ≡ some a)). ⊎_elim
-            (λ (q : (j ≡ id) × (w ≡ b)). absurd (apart i a p.0 p.1 (ap held_in q.1 ∙ l) h (ap (λ (z : View T). ticket z.stage) q.1 ∙ sym same)))
-            (λ (q : (j ≢ id) × (get_elem? s.views j ≡ some b)). k.alone i j a b p.1 q.1 h l same)
-            (at_set s.views id j w b g))
+        (λ (q : (j ≡ id) × (w ≡ b)). absurd (apart i a p.0 p.1 (ap held_in q.1 ∙ l) h (ap (λ (z : View T). ticket z.stage) q.1 ∙ sym same)))
+        (λ (q : (j ≢ id) × (get_elem? s.views j ≡ some b)). k.alone i j a b p.1 q.1 h l same)
+        (at_set s.views id j w b g))
         (at_set s.views id i w a e);
     supply = let t = sum-set left_in s.views id v w at in let q = k.supply in omega arith;
     small = k.small;

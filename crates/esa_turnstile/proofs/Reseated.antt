@@ -85,25 +85,25 @@ module _ {T O : Type 0} (log_of : T → List ℕ) (origin : T → O) (IsSound : 
   splits id v left right out out-left out-right lefts members bears fits s k at =
       let both = fits k.log k.marks k.drawn (k.fits id v at) in let vs : List V = set s.views id left in
       reseated s k (vs ++ right ∷ [])
-          (sum-split held_in s.views id v left right at (omega arith))
-          (sum-split left_in s.views id v left right at lefts)
-          (sum-split members_in s.views id v left right at members)
-          (λ x. sum-split (bearers x) s.views id v left right at (bears x))
-          (λ i u e. ⊎_elim
-              (λ (old : get_elem? vs i ≡ some u). ⊎_elim
-                  (λ (t : (i ≡ id) × (left ≡ u)). subst (Fits about k.log k.marks k.drawn) t.1 both.0)
-                  (λ (t : (i ≢ id) × (get_elem? s.views i ≡ some u)). k.fits i u t.1)
-                  (at_set s.views id i left u old))
-              (λ (new : right ≡ u). subst (Fits about k.log k.marks k.drawn) new both.1)
-              (at_snoc vs right u i e))
-          (λ i u e h. ⊎_elim
-              (λ (old : get_elem? vs i ≡ some u). ⊎_elim
-                  (λ (t : (i ≡ id) × (left ≡ u)). absurd (zero-not-one (held left.stage) out-left (ap held_in t.1 ∙ h)))
-                  (λ (t : (i ≢ id) × (get_elem? s.views i ≡ some u)). t.1)
-                  (at_set s.views id i left u old))
-              (λ (new : right ≡ u). absurd (zero-not-one (held right.stage) out-right (ap held_in new ∙ h)))
-              (at_snoc vs right u i e))
-          (λ i u e h. at_longer vs (right ∷ []) i u (set_else s.views id i left (not-it s.views i id u v e at h out) ∙ e))
+      (sum-split held_in s.views id v left right at (omega arith))
+      (sum-split left_in s.views id v left right at lefts)
+      (sum-split members_in s.views id v left right at members)
+      (λ x. sum-split (bearers x) s.views id v left right at (bears x))
+      (λ i u e. ⊎_elim
+      (λ (old : get_elem? vs i ≡ some u). ⊎_elim
+      (λ (t : (i ≡ id) × (left ≡ u)). subst (Fits about k.log k.marks k.drawn) t.1 both.0)
+      (λ (t : (i ≢ id) × (get_elem? s.views i ≡ some u)). k.fits i u t.1)
+      (at_set s.views id i left u old))
+      (λ (new : right ≡ u). subst (Fits about k.log k.marks k.drawn) new both.1)
+      (at_snoc vs right u i e))
+      (λ i u e h. ⊎_elim
+      (λ (old : get_elem? vs i ≡ some u). ⊎_elim
+      (λ (t : (i ≡ id) × (left ≡ u)). absurd (zero-not-one (held left.stage) out-left (ap held_in t.1 ∙ h)))
+      (λ (t : (i ≢ id) × (get_elem? s.views i ≡ some u)). t.1)
+      (at_set s.views id i left u old))
+      (λ (new : right ≡ u). absurd (zero-not-one (held right.stage) out-right (ap held_in new ∙ h)))
+      (at_snoc vs right u i e))
+      (λ i u e h. at_longer vs (right ∷ []) i u (set_else s.views id i left (not-it s.views i id u v e at h out) ∙ e))
 
   pub joins : (id : ℕ) (v : V) (other : ℕ) (w both spent : V) → held v.stage ≡ 0 → held w.stage ≡ 0 → held both.stage ≡ 0 → held spent.stage ≡ 0
       → both.left + spent.left ≡ v.left + w.left
@@ -116,22 +116,22 @@ module _ {T O : Type 0} (log_of : T → List ℕ) (origin : T → O) (IsSound : 
       let there' : get_elem? s.views other ≡ some w = ⊎_elim (λ (t : (other ≡ id) × (both ≡ w)). absurd (apart t.0)) (λ (t : (other ≢ id) × (get_elem? s.views other ≡ some w)). t.1) (at_set s.views id other both w there) in
       let two = fits k.log k.marks k.drawn k.rises (k.fits id v at) (k.fits other w there') in
       reseated s k (set vs other spent)
-          (sum-join held_in s.views id other v w both spent at there (omega arith))
-          (sum-join left_in s.views id other v w both spent at there lefts)
-          (sum-join members_in s.views id other v w both spent at there members)
-          (λ x. sum-join (bearers x) s.views id other v w both spent at there (bears x))
-          (λ i u e. ⊎_elim
-              (λ (t : (i ≡ other) × (spent ≡ u)). subst (Fits about k.log k.marks k.drawn) t.1 two.1)
-              (λ (t : (i ≢ other) × (get_elem? vs i ≡ some u)). ⊎_elim
-                  (λ (p : (i ≡ id) × (both ≡ u)). subst (Fits about k.log k.marks k.drawn) p.1 two.0)
-                  (λ (p : (i ≢ id) × (get_elem? s.views i ≡ some u)). k.fits i u p.1)
-                  (at_set s.views id i both u t.1))
-              (at_set vs other i spent u e))
-          (λ i u e h. ⊎_elim
-              (λ (t : (i ≡ other) × (spent ≡ u)). absurd (zero-not-one (held spent.stage) out-spent (ap held_in t.1 ∙ h)))
-              (λ (t : (i ≢ other) × (get_elem? vs i ≡ some u)). ⊎_elim
-                  (λ (p : (i ≡ id) × (both ≡ u)). absurd (zero-not-one (held both.stage) out-both (ap held_in p.1 ∙ h)))
-                  (λ (p : (i ≢ id) × (get_elem? s.views i ≡ some u)). p.1)
-                  (at_set s.views id i both u t.1))
-              (at_set vs other i spent u e))
-          (λ i u e h. set_else vs other i spent (not-it s.views i other u w e there' h out-w) ∙ (set_else s.views id i both (not-it s.views i id u v e at h out) ∙ e))
+      (sum-join held_in s.views id other v w both spent at there (omega arith))
+      (sum-join left_in s.views id other v w both spent at there lefts)
+      (sum-join members_in s.views id other v w both spent at there members)
+      (λ x. sum-join (bearers x) s.views id other v w both spent at there (bears x))
+      (λ i u e. ⊎_elim
+      (λ (t : (i ≡ other) × (spent ≡ u)). subst (Fits about k.log k.marks k.drawn) t.1 two.1)
+      (λ (t : (i ≢ other) × (get_elem? vs i ≡ some u)). ⊎_elim
+      (λ (p : (i ≡ id) × (both ≡ u)). subst (Fits about k.log k.marks k.drawn) p.1 two.0)
+      (λ (p : (i ≢ id) × (get_elem? s.views i ≡ some u)). k.fits i u p.1)
+      (at_set s.views id i both u t.1))
+      (at_set vs other i spent u e))
+      (λ i u e h. ⊎_elim
+      (λ (t : (i ≡ other) × (spent ≡ u)). absurd (zero-not-one (held spent.stage) out-spent (ap held_in t.1 ∙ h)))
+      (λ (t : (i ≢ other) × (get_elem? vs i ≡ some u)). ⊎_elim
+      (λ (p : (i ≡ id) × (both ≡ u)). absurd (zero-not-one (held both.stage) out-both (ap held_in p.1 ∙ h)))
+      (λ (p : (i ≢ id) × (get_elem? s.views i ≡ some u)). p.1)
+      (at_set s.views id i both u t.1))
+      (at_set vs other i spent u e))
+      (λ i u e h. set_else vs other i spent (not-it s.views i other u w e there' h out-w) ∙ (set_else s.views id i both (not-it s.views i id u v e at h out) ∙ e))

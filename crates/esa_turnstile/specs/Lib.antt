@@ -5,3 +5,4 @@ pub mod Steps
 pub mod Passes
 pub mod Closing
 pub mod Rolls
+pub mod Rounds

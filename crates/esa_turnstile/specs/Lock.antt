@@ -65,24 +65,19 @@ module _ {T O : Type 0} (log_of : T → List ℕ) (origin : T → O) (IsSound : 
     pub log : List ℕ
     pub marks : ℕ → ℕ
     pub drawn : ℕ
-
     -- tickets
     pub words : s.words ≡ drawn ∷ length log ∷ []
     pub queue : drawn ≡ length log + sum_by held_in s.views
     pub alone : (i j : ℕ) (v w : View T) → get_elem? s.views i ≡ some v → get_elem? s.views j ≡ some w → held v.stage ≡ 1 → held w.stage ≡ 1 → ticket v.stage ≡ ticket w.stage → i ≡ j
     pub supply : drawn + sum_by left_in s.views ≡ about.passes * about.tickets
     pub small : about.passes * about.tickets < 2 ^ 64
-
     -- entries
     pub named : All (λ x. x < about.passes) log
     pub bounded : (x : ℕ) → times x log ≤ about.tickets
-
     -- numbers: each pass is one seat's, and no two have one number
     pub whole : sum_by members_in s.views ≡ about.passes
     pub once : (x : ℕ) → sum_by (bearers x) s.views ≤ 1
-
     -- marks
     pub rises : (i j : ℕ) → i ≤ j → marks i ≤ marks j
-
     pub fits : (i : ℕ) (v : View T) → get_elem? s.views i ≡ some v → Fits about log marks drawn v
     pub slot : IsHome about log marks s ⊎ IsAway s

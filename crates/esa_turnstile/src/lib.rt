@@ -10,11 +10,13 @@ mod pass;
 mod plays;
 mod roll;
 mod rounds;
+#[cfg(test)]
+mod tests;
 mod turnstile;
 mod view;
 
 pub use logged::Logged;
 pub use pass::{Held, Pass};
 pub use roll::Roll;
-pub use rounds::{go_round, go_rounds, two_workers};
+pub use rounds::{all_rounds, go_round, go_rounds, two_workers, workers};
 pub use turnstile::{NoTurnstile, Opened, Turnstile};

@@ -29,6 +29,14 @@ impl Roll {
     {
         self.entries.push_reserved(number);
     }
+
+    /// Takes all numbers out.
+    pub fn clear(&mut self)
+        ensures empty { entries_in self.new ≡ [] }
+        ensures room { room_in self.new ≡ room_in self.old }
+    {
+        self.entries.clear();
+    }
 }
 
 /// Its origin is its room. It is always sound, and its mark is the number of its entries.

@@ -7,8 +7,7 @@ use Rattle.esa_turnstile.proofs.turnstile.Turnstile.advance.Goals as goal
 pub fetch_add-served-requires : goal.fetch_add-served-requires
 fetch_add-served-requires g c =
     let e = c.exchange-before.ensures.3 in let x = c.args.value in let old = c.args.seat.now.me.0 in let new = c.exchange-before.new.seat.me.0 in
-    let view = ap (λ m. m.0) e in
-    (
+    let view = ap (λ m. m.0) e in (
       search rules,
       search rules,
       advances _ _ _ _ _ _ _ c.exchange-before.new.seat.me x
