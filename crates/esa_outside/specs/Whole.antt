@@ -1,5 +1,5 @@
 -- Why a file was not read whole.
-use Rattle.std.specs.Prelude.{◌≡◌, ◌⊎◌, ℕ, ◌<◌, ◌≤◌, List, length, Option, Some, None, Result, Ok, Err, IsSomeAnd}
+use Rattle.std.specs.Prelude.{◌≡◌, ◌⊎◌, ℕ, ◌<◌, ◌≤◌, List, length, Option, Some, Result, Ok, Err, IsSomeAnd}
 use Rattle.std.specs.Option.{option_map}
 use Rattle.esa_outside.specs.Cause.{Rose}
 use Rattle.esa_outside.specs.declared.whole.ReadRefused.{ReadRefused}

@@ -7,11 +7,18 @@
 #![tactic(auto)]
 
 mod cabinet;
+mod host;
+mod memory;
+mod memory_printer;
 mod printer;
 mod records;
+mod schedule;
 mod whole;
 
 pub use cabinet::Cabinet;
+pub use host::{HostCabinet, HostPrinter};
+pub use memory::MemCabinet;
+pub use memory_printer::MemPrinter;
 pub use printer::Printer;
 pub use records::Records;
 pub use whole::{ReadRefused, read_whole};

@@ -1,0 +1,113 @@
+//! A database that was read from its file.
+
+ghost use Rattle.std.specs.Prelude.{◌≡◌, ◌⊎◌, ◌<◌, ◌≤◌, ◌^◌, ◌+◌, None, Ok, Err, List, ℕ, length, drop, map, slice_index_or, IfOk, MatchResult, []};
+ghost use Rattle.esa_analyser.specs.declared.refused.DbRefused.TheVariants.{OutOfMemory};
+ghost use Rattle.esa_analyser.specs.Database.{Database, longest};
+ghost use Rattle.esa_analyser.specs.Reading.{rows_in, row_at, RowsInside, database_in};
+
+use crate::DbRefused;
+use crate::row::read_row;
+use esa_bytes::{Cut, u32_at};
+use esa_header::form_of;
+use esa_params::Form;
+use std::alloc::Global;
+use std::marker::Model;
+
+/// The length of the header of a database file, in bytes.
+const HEADER: usize = 13;
+
+/// A database, and the form that the version of its file carries.
+///
+/// The rows stand in the file's own bytes, so that a value can be lent.
+#[derive(Drop)]
+pub struct Db {
+    form: Form,
+    bytes: Vec<u8>,
+    starts: Vec<usize>,
+    unopened: u32,
+}
+
+impl Model for Db {
+    ghost use Rattle.std.specs.Prelude.{◌<◌, ◌^◌, length, map};
+    ghost use Rattle.esa_analyser.specs.Stored.{Stored};
+
+    ghost Value = { Stored };
+
+    ghost use Rattle.esa_analyser.specs.Reading.{row_at, RowsInside};
+
+    ghost view = { λ db. record { form = db.form; database = record { rows = map (row_at db.bytes.items) db.starts.items; unopened = db.unopened } } };
+
+    ghost invariant = { λ db. RowsInside db.bytes.items db.starts.items × (length db.starts.items < 2 ^ 32) };
+}
+
+/// The places where the rows of a database file start, or the first test that a row fails.
+fn read_rows(
+    alloc: Global,
+    bytes: &[u8],
+    longest: u32,
+    number: u32,
+) -> Result<Vec<usize>, DbRefused>
+    requires { 13 ≤ length bytes.now }
+    ensures rows { let read = rows_in longest (length bytes.now) number 0 None (drop 13 bytes.now) in
+        MatchResult result (λ starts. read ≡ Ok (map (row_at bytes.now) starts.items))
+        (λ refused. (refused ≡ OutOfMemory) ⊎ (read ≡ Err refused)) }
+    ensures inside { IfOk result (λ starts. RowsInside bytes.now starts.items) }
+    ensures number { IfOk result (λ starts. length starts.items ≡ number) }
+{
+    let mut starts = Vec::new(alloc);
+    let mut start = HEADER;
+    let mut before: Option<&[u8]> = None;
+    for row in 0..number {
+        let end = read_row(bytes, start, longest, row, before)?;
+        starts.push(start)?;
+        before = Some(&bytes[start + 1..end - 4]);
+        start = end;
+    }
+    if start < bytes.len() {
+        return Err(DbRefused::Trailing);
+    }
+    Ok(starts)
+}
+
+impl Db {
+    /// The form that the version carries: One for version 1.
+    pub fn form(&self) -> Form
+        ensures { result ≡ self.now.form }
+    {
+        self.form
+    }
+
+    /// The number of rows.
+    pub fn rows(&self) -> u32
+        ensures { result ≡ length self.now.database.rows }
+    {
+        self.starts.len() as u32
+    }
+
+    /// The number of envelopes that gave no value.
+    pub fn unopened(&self) -> u32
+        ensures { result ≡ self.now.database.unopened }
+    {
+        self.unopened
+    }
+
+    /// The value of a row, counted from 0.
+    pub fn value(&self, row: u32) -> &[u8]
+        requires { row < length self.now.database.rows }
+        ensures { result.now ≡ (slice_index_or self.now.database.rows row ([], 0)).0 }
+    {
+        let start = self.starts[row as usize];
+        let length = usize::from(self.bytes[start]);
+        &self.bytes[start + 1..start + 1 + length]
+    }
+
+    /// How often the value of a row, counted from 0, was reported.
+    pub fn count(&self, row: u32) -> u32
+        requires { row < length self.now.database.rows }
+        ensures { result ≡ (slice_index_or self.now.database.rows row ([], 0)).1 }
+    {
+        let start = self.starts[row as usize];
+        let row = &self.bytes[start..];
+        u32_at(row, 1 + usize::from(row[0]))
+    }
+}

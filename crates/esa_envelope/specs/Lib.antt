@@ -1,0 +1,4 @@
+pub mod Envelope
+pub mod Keys
+pub mod Keystream
+pub mod Label

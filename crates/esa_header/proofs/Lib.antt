@@ -1,0 +1,3 @@
+pub mod HeaderLaws
+pub mod WriteLaws
+pub mod PieceLaws

@@ -1,0 +1,2 @@
+mod FilesOf
+mod Fronts
