@@ -1,0 +1,13 @@
+pub mod Call
+pub mod Ends
+pub mod Explains
+pub mod Judged
+pub mod Plain
+pub mod Refusal
+pub mod Source
+pub mod Status
+pub mod Step
+pub mod Stop
+pub mod Taking
+pub mod Words
+pub mod Work

@@ -1,0 +1,18 @@
+//! The commands: from the words of a command line to the files that it writes and the lines that it prints.
+#![tactic(auto)]
+
+mod call;
+mod line;
+mod plain;
+mod printing;
+mod reading;
+mod refusal;
+mod source;
+mod status;
+mod stop;
+mod taking;
+mod telling;
+mod words;
+
+pub use refusal::Refusal;
+pub use status::Status;
