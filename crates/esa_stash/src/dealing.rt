@@ -23,6 +23,7 @@ pub fn deal(
     requires chains { length cells.old.chains ≡ length counts.old }
     requires places { length chunks.old ≡ length counts.old * c }
     requires item_each { length items.now ≡ length targets.now }
+    requires small { length counts.old < 2 ^ 32 }
     requires below { All (λ target. target < length counts.old) targets.now }
     requires room { sum_by (left_of c (line_after cells.old targets.now items.now)) (below (length counts.old)) ≤ cells.old.room }
     ensures dealt { AreDealt (length counts.old) c (line_after cells.old targets.now items.now) cells.new chunks.new counts.new }
