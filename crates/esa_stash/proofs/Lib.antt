@@ -1,6 +1,7 @@
 pub mod Arenas
 pub mod Dealt
 pub mod Drawing
+pub mod Lines
 pub mod Linking
 pub mod Partitions
 pub mod Queues

@@ -26,3 +26,10 @@ backlog c all last i = waiting c (batches (all ++ last ∷ []) i) (suc (length a
 -- and for all targets together
 abbrev pub total_backlog : Held → List Handed → Handed → ℕ
 total_backlog held all last = sum_by (backlog held.c all last) (targets_of held)
+
+-- how many items the chunk of a target has in the last exchange
+abbrev pub last_count : ℕ → List Handed → Handed → ℕ → ℕ
+last_count c all last i = length (leaving c (batches (all ++ last ∷ []) i) (length all))
+
+abbrev pub last_counts : Held → List Handed → Handed → List ℕ
+last_counts held all last = map (last_count held.c all last) (targets_of held)

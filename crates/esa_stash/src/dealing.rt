@@ -1,6 +1,6 @@
 //! The steps of an exchange, over an arena, chunks and counts.
 
-ghost use Rattle.std.specs.Prelude.{◌≡◌, ℕ, ◌+◌, ◌*◌, ◌≤◌, ◌<◌, ◌^◌, List, All, length, take, drop, sum_by, slice_index};
+ghost use Rattle.std.specs.Prelude.{◌≡◌, ℕ, ◌+◌, ◌*◌, ◌≤◌, ◌<◌, ◌^◌, List, [], All, length, take, drop, sum_by, slice_index};
 ghost use Rattle.esa_stash.specs.Arena.{queues_of};
 ghost use Rattle.esa_stash.specs.Stash.{padded};
 ghost use Rattle.esa_stash.specs.Sizes.{below};
@@ -23,6 +23,7 @@ pub fn deal(
     requires chains { length cells.old.chains ≡ length counts.old }
     requires places { length chunks.old ≡ length counts.old * c }
     requires item_each { length items.now ≡ length targets.now }
+    requires small { length counts.old < 2 ^ 32 }
     requires below { All (λ target. target < length counts.old) targets.now }
     requires room { sum_by (left_of c (line_after cells.old targets.now items.now)) (below (length counts.old)) ≤ cells.old.room }
     ensures dealt { AreDealt (length counts.old) c (line_after cells.old targets.now items.now) cells.new chunks.new counts.new }
@@ -94,4 +95,14 @@ pub fn draw(cells: &mut Cells, chain: u32, out: &mut [Item]) -> usize
         *place = cells.pop(chain).unwrap_or(Item::dummy());
     }
     count
+}
+
+/// Empties a chain.
+pub fn empty(cells: &mut Cells, chain: u32)
+    requires { chain < length cells.old.chains }
+    ensures { ChangesQueue cells.old cells.new chain [] }
+{
+    for _ in 0..cells.length(chain) {
+        cells.pop(chain);
+    }
 }
