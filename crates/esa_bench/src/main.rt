@@ -7,9 +7,12 @@
 #![tactic(auto)]
 
 mod bare;
+mod forward;
 
 use anyhow::{Context, Result, bail};
+use forward::Values;
 use std::env;
+use std::rt::Files;
 
 fn main(rt: HostRuntime) -> Result<()> {
     let mut words = env::args(&rt)?;
@@ -25,10 +28,12 @@ fn main(rt: HostRuntime) -> Result<()> {
 }
 
 /// Does the work of one module once, at a size.
-fn run(rt: &impl Print, module: &str, size: u64) -> Result<()> {
+fn run<R: Print + Files + AllocGlobal>(rt: &R, module: &str, size: u64) -> Result<()> {
     match module {
         "hash" => bare::hash(rt, size),
         "keystream" => bare::keystream(rt, size),
+        "forward-seven" => forward::write(rt, Values::Seven, size),
+        "forward-distinct" => forward::write(rt, Values::Distinct, size),
         _ => bail!("no such module"),
     }
 }
