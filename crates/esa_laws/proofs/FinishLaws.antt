@@ -106,7 +106,7 @@ split : (f : ℕ → Bool) (n : ℕ) (before : Option ℕ) → option_or before 
 split f n None e = (refl, not-last f n (f n) refl e)
 split f n (Some j) e = absurd (cc)
 
-none-found : (f : ℕ → Bool) (n : ℕ) → find f (below n) ≡ None → (x : ℕ) → x < n → f x ≡ false
+pub none-found : (f : ℕ → Bool) (n : ℕ) → find f (below n) ≡ None → (x : ℕ) → x < n → f x ≡ false
 none-found f zero e x x_in = absurd (omega arith)
 none-found f (suc n) e x x_in =
     let parts = split f n (find f (below n)) (sym (find-below-suc f n) ∙ e) in

@@ -1,7 +1,9 @@
 pub mod AfterLaws
 pub mod FinishLaws
 pub mod LineLaws
+pub mod OrderLaws
 pub mod PermLaws
+pub mod PlaceLaws
 pub mod QueueLaws
 pub mod Ranges
 pub mod RoundLaws

@@ -18,7 +18,7 @@ record Split (xs : List ℕ) (j : ℕ) : Type 0 where
   behind : List ℕ
   joins : xs ≡ before ++ j ∷ behind
 
-occurs-cons : (x j : ℕ) (xs : List ℕ) → occurrences j (x ∷ xs) ≡ bit (x == j) + occurrences j xs
+pub occurs-cons : (x j : ℕ) (xs : List ℕ) → occurrences j (x ∷ xs) ≡ bit (x == j) + occurrences j xs
 occurs-cons x j xs = sum_by-cons (λ i. bit (i == j)) x xs
 
 -- a number that occurs stands somewhere
@@ -51,3 +51,28 @@ permutes (suc n) xs long each =
     subst (λ y. IsPermutation y xs) (sym (below-suc n)) (subst (λ y. IsPermutation (below n ++ n ∷ []) y) (sym s.joins)
     (IsPermutation-trans _ _ _ (IsPermutation-to_front (below n) n)
     (IsPermutation-trans _ _ _ (IsPermutation-cons n (below n) (ys ++ zs) others) (IsPermutation-sym _ _ (IsPermutation-middle ys n zs)))))
+
+pub occurs-append : (j : ℕ) (xs ys : List ℕ) → occurrences j (xs ++ ys) ≡ occurrences j xs + occurrences j ys
+occurs-append j xs ys = sum_by-append (λ i. bit (i == j)) xs ys
+
+same : (j : ℕ) → (j == j) ≡ true
+same j = grind (arith, nat_tests)
+
+-- lists in which each number occurs equally often
+pub permutes-counted : (ys xs : List ℕ) → ((j : ℕ) → occurrences j xs ≡ occurrences j ys) → IsPermutation ys xs
+permutes-counted [] [] equal = IsPermutation-refl []
+permutes-counted [] (x ∷ xs) equal = absurd (omega (arith, equal x, occurs-cons x x xs, ap bit (same x)))
+permutes-counted (y ∷ ys) xs equal =
+    let s = split-at xs y (omega (arith, equal y, occurs-cons y y ys, ap bit (same y))) in
+    let fewer : (j : ℕ) → occurrences j (s.before ++ s.behind) ≡ occurrences j ys = λ j. omega (
+      arith,
+      equal j,
+      ap (occurrences j) s.joins,
+      occurs-append j s.before (y ∷ s.behind),
+      occurs-append j s.before s.behind,
+      occurs-cons y j s.behind,
+      occurs-cons y j ys,
+    ) in
+    let others = permutes-counted ys (s.before ++ s.behind) fewer in
+    subst (λ z. IsPermutation (y ∷ ys) z) (sym s.joins)
+    (IsPermutation-trans _ _ _ (IsPermutation-cons y ys (s.before ++ s.behind) others) (IsPermutation-sym _ _ (IsPermutation-middle s.before y s.behind)))

@@ -6,6 +6,8 @@
 
 pub mod completions;
 pub mod lines;
+pub mod orders;
+pub mod permutations;
 pub mod queues;
 pub mod rounds;
 pub mod spreads;
