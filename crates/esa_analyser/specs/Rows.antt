@@ -30,15 +30,15 @@ abbrev pub AreRising : Option (List ℕ) → List (List ℕ × ℕ) → Type 0
 AreRising before [] = Unit {0}
 AreRising before (row ∷ rows) = (is_above before row.0 ≡ true) × AreRising (Some row.0) rows
 
--- a value that a report of the form can carry, and a count from 1 on
-pub record IsRow (form : Form) (row : List ℕ × ℕ) : Type 0 where
-  pub short : length row.0 ≤ longest form
+-- a value that is not too long, and a count from 1 on
+pub record IsRow (most : ℕ) (row : List ℕ × ℕ) : Type 0 where
+  pub short : length row.0 ≤ most
   pub counted : 0 < row.1
   pub fits : row.1 < 2 ^ 32
 
 -- what a file of the form can hold
 pub record IsDatabase (form : Form) (database : Database) : Type 0 where
   pub rising : AreRising None database.rows
-  pub rows : All (IsRow form) database.rows
+  pub rows : All (IsRow (longest form)) database.rows
   pub number : length database.rows < 2 ^ 32
   pub unopened : database.unopened < 2 ^ 32

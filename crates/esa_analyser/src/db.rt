@@ -2,7 +2,9 @@
 
 ghost use Rattle.std.specs.Prelude.{◌≡◌, ◌⊎◌, ◌<◌, ◌≤◌, ◌^◌, ◌+◌, None, Ok, Err, List, ℕ, length, drop, map, slice_index_or, IfOk, MatchResult, []};
 ghost use Rattle.esa_analyser.specs.declared.refused.DbRefused.TheVariants.{OutOfMemory};
-ghost use Rattle.esa_analyser.specs.Database.{Database, longest};
+ghost use Rattle.esa_params.specs.declared.form.Form.{Form};
+ghost use Rattle.esa_analyser.specs.Database.{Database};
+ghost use Rattle.esa_analyser.specs.Rows.{IsDatabase, database_bytes};
 ghost use Rattle.esa_analyser.specs.Reading.{rows_in, row_at, RowsInside, database_in};
 
 use crate::DbRefused;
@@ -67,6 +69,52 @@ fn read_rows(
         return Err(DbRefused::Trailing);
     }
     Ok(starts)
+}
+
+/// What a database file says, or the first test that it fails.
+fn tested_db(alloc: Global, bytes: &[u8]) -> Result<Db, DbRefused>
+    ensures { MatchResult result (λ db. database_in bytes.now ≡ Ok db)
+        (λ refused. (refused ≡ OutOfMemory) ⊎ (database_in bytes.now ≡ Err refused)) }
+{
+    if bytes.len() < HEADER {
+        let have = bytes.len() as u64;
+        return Err(DbRefused::Cut(Cut {
+            want: HEADER as u64,
+            have,
+        }));
+    }
+    if !bytes.starts_with(b"ESAD") {
+        return Err(DbRefused::BadMagic);
+    }
+    let form = match form_of(bytes[4]) {
+        Some(form) => form,
+        None => return Err(DbRefused::BadVersion),
+    };
+    let unopened = u32_at(bytes, 9);
+    let starts = read_rows(alloc, bytes, form.report() - 2, u32_at(bytes, 5))?;
+    let bytes = Vec::from_slice(alloc, bytes)?;
+    Ok(Db {
+        form,
+        bytes,
+        starts,
+        unopened,
+    })
+}
+
+/// Reads a database file of either version. The refusal is the first test that it fails.
+pub fn read_db(alloc: Global, bytes: &[u8]) -> Result<Db, DbRefused>
+    ensures first_refusal { MatchResult result (λ db. database_in bytes.now ≡ Ok db)
+        (λ refused. (refused ≡ OutOfMemory) ⊎ (database_in bytes.now ≡ Err refused)) }
+
+    // What is accepted is the one spelling of what was read.
+    ensures spelled { IfOk result (λ db. IsDatabase db.form db.database × (bytes.now ≡ database_bytes db.form db.database)) }
+
+    // The file of each database is accepted, but for want of memory.
+    ensures accepts { (form : Form) (database : Database) → IsDatabase form database
+        → bytes.now ≡ database_bytes form database
+        → MatchResult result (λ db. db ≡ record { form = form; database = database }) (λ refused. refused ≡ OutOfMemory) }
+{
+    tested_db(alloc, bytes)
 }
 
 impl Db {

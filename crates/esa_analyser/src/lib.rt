@@ -5,5 +5,5 @@ mod db;
 mod refused;
 mod row;
 
-pub use db::Db;
+pub use db::{Db, read_db};
 pub use refused::DbRefused;

@@ -42,11 +42,11 @@ front_fields bytes long =
     ∙ ap (λ ys. take 4 bytes ++ (get_or bytes 4 0 ∷ (take 4 (drop 5 bytes) ++ take 2 ys))) (drop-drop 4 5 bytes)
 
 -- a test that refuses was not met where the answer is Ok
-first_passed : {T E : Type 0} (b : Bool) (e : E) (r : Result T E) (x : T) → cond b (Err e) r ≡ Ok x → (b ≡ false) × (r ≡ Ok x)
+pub first_passed : {T E : Type 0} (b : Bool) (e : E) (r : Result T E) (x : T) → cond b (Err e) r ≡ Ok x → (b ≡ false) × (r ≡ Ok x)
 first_passed true e r x h = cc
 first_passed false e r x h = (refl, h)
 
-then_passed : {T E : Type 0} (b : Bool) (e : E) (r : Result T E) (x : T) → cond b r (Err e) ≡ Ok x → (b ≡ true) × (r ≡ Ok x)
+pub then_passed : {T E : Type 0} (b : Bool) (e : E) (r : Result T E) (x : T) → cond b r (Err e) ≡ Ok x → (b ≡ true) × (r ≡ Ok x)
 then_passed true e r x h = (refl, h)
 then_passed false e r x h = cc
 
@@ -56,17 +56,17 @@ not_below a b h = grind (arith, nat_tests)
 pub no_test : (a b : ℕ) → b ≤ a → nat_lt a b ≡ false
 no_test a b h = grind (arith, nat_tests)
 
-same_number : (a b : ℕ) → (a == b) ≡ true → a ≡ b
+pub same_number : (a b : ℕ) → (a == b) ≡ true → a ≡ b
 same_number a b h = grind (arith, nat_tests)
 
-number_itself : (a b : ℕ) → a ≡ b → (a == b) ≡ true
+pub number_itself : (a b : ℕ) → a ≡ b → (a == b) ≡ true
 number_itself a b h = grind (arith, nat_tests)
 
 version_result-ok : (o : Option Form) (form : Form) → version_result o ≡ Ok form → o ≡ Some form
 version_result-ok None form h = cc
 version_result-ok (Some other) form h = cc
 
-form_in-is : (v : ℕ) (form : Form) → form_in v ≡ Some form → v ≡ version_byte form
+pub form_in-is : (v : ℕ) (form : Form) → form_in v ≡ Some form → v ≡ version_byte form
 form_in-is v form h =
     elim (v == 1) as (λ b. (v == 1) ≡ b → cond b (Some One) (cond (v == 2) (Some Two) None) ≡ Some form → v ≡ version_byte form) [
       | true ↦ λ e h. let is : One ≡ form = cc in same_number v 1 e ∙ ap version_byte is
@@ -106,7 +106,7 @@ module _ (bytes : List ℕ) (are : AreBytes bytes) where
   part_byte : (n m i : ℕ) → get_or (take m (drop n bytes)) i 0 < 256
   part_byte n m i = below_part bytes are n m i
 
-  field_u32 : (at : ℕ) → at + 4 ≤ length bytes → to_be_bytes w32 (u32_in bytes at) ≡ take 4 (drop at bytes)
+  pub field_u32 : (at : ℕ) → at + 4 ≤ length bytes → to_be_bytes w32 (u32_in bytes at) ≡ take 4 (drop at bytes)
   unfolding u32_in
   field_u32 at inside =
       let size : at + 4 - at ≡ 4 = omega arith in
@@ -118,7 +118,7 @@ module _ (bytes : List ℕ) (are : AreBytes bytes) where
       let size : at + 2 - at ≡ 2 = omega arith in
       be_bytes_2 (take 2 (drop at bytes)) _ (length_part at 2 inside) (part_byte at 2) (ap (λ n. from_be_bytes w16 (take n (drop at bytes))) size)
 
-both_ways : (a b : ℕ) → a ≤ b → b ≤ a → a ≡ b
+pub both_ways : (a b : ℕ) → a ≤ b → b ≤ a → a ≡ b
 both_ways a b h g = omega arith
 
 front_is : (kind : FileKind) (bytes : List ℕ) → AreBytes bytes → (form : Form) → 11 ≤ length bytes → take 4 bytes ≡ magic kind → get_or bytes 4 0 ≡ version_byte form → u16_in bytes 9 ≡ record_length kind form
@@ -195,7 +195,7 @@ version-at : (kind : FileKind) (v : ℕ) (rest : List ℕ) → get_or (magic kin
 version-at Batch v rest = refl
 version-at Forward v rest = refl
 
-form_in-version_byte : (form : Form) → form_in (version_byte form) ≡ Some form
+pub form_in-version_byte : (form : Form) → form_in (version_byte form) ≡ Some form
 form_in-version_byte One = refl
 form_in-version_byte Two = refl
 

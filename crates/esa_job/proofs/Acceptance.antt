@@ -79,11 +79,11 @@ some_value read (Some value) there typed = not-false (is_some (read value)) type
 is_there-needed : (job : Request) (field : JobField) → need_of field job.command ≡ Needed → is_missing job field ≡ false → is_there job field ≡ true
 is_there-needed job field needed missing = known (need_of field job.command) (is_there job field) needed missing
   where
-  known : (need : Need) (there : Bool) → need ≡ Needed → (is_needed need && not there) ≡ false → there ≡ true
-  known Unused there needed missing = cc
-  known Optional there needed missing = cc
-  known Needed true needed missing = refl
-  known Needed false needed missing = sym missing
+    known : (need : Need) (there : Bool) → need ≡ Needed → (is_needed need && not there) ≡ false → there ≡ true
+    known Unused there needed missing = cc
+    known Optional there needed missing = cc
+    known Needed true needed missing = refl
+    known Needed false needed missing = sym missing
 
 pub name_at-needed : (job : Request) → IsAcceptable job → (field : JobField) → kind_of field ≡ kind.Name → need_of field job.command ≡ Needed → IsSome (name_at job field)
 name_at-needed job accepted field of_kind needed =
@@ -138,10 +138,10 @@ kept job accepted = kept_from job (no_limit_past job accepted).1
 pub params_kept : (job : Request) → IsAcceptable job → need_of B job.command ≡ Needed → first_past (params_of job) ≡ None
 params_kept job accepted needed = known (need_of B job.command) (first_past (params_of job)) needed (no_limit_past job accepted).0
   where
-  known : {A : Type 0} (need : Need) (past : Option A) → need ≡ Needed → cond (is_used need) past None ≡ None → past ≡ None
-  known Unused past needed none = cc
-  known Optional past needed none = none
-  known Needed past needed none = none
+    known : {A : Type 0} (need : Need) (past : Option A) → need ≡ Needed → cond (is_used need) past None ≡ None → past ≡ None
+    known Unused past needed none = cc
+    known Optional past needed none = none
+    known Needed past needed none = none
 
 is_kept : (least greatest number : ℕ) → not (is_from number least greatest) ≡ false → (least ≤ number) × (number ≤ greatest)
 is_kept least greatest number past =
@@ -166,25 +166,26 @@ slice_get-filter_map : {A B : Type 0} (read : A → Option B) (values : List A) 
 slice_get-filter_map read [] place named = refl
 slice_get-filter_map read (value ∷ values) zero named = first (read value) (filter_map read values) (both_true _ _ named).0
   where
-  first : {B : Type 0} (found : Option B) (rest : List B) → is_some found ≡ true → slice_get (cons_option found rest) zero ≡ found
-  first None rest some = cc
-  first (Some x) rest some = refl
+    first : {B : Type 0} (found : Option B) (rest : List B) → is_some found ≡ true → slice_get (cons_option found rest) zero ≡ found
+    first None rest some = cc
+    first (Some x) rest some = refl
 slice_get-filter_map read (value ∷ values) (suc place) named =
     later (read value) (filter_map read values) place (both_true _ _ named).0 ∙ slice_get-filter_map read values place (both_true _ _ named).1
   where
-  later : {B : Type 0} (found : Option B) (rest : List B) (place : ℕ) → is_some found ≡ true → slice_get (cons_option found rest) (suc place) ≡ slice_get rest place
-  later None rest place some = cc
-  later (Some x) rest place some = refl
+    later : {B : Type 0} (found : Option B) (rest : List B) (place : ℕ) → is_some found ≡ true → slice_get (cons_option found rest) (suc place) ≡ slice_get rest place
+    later None rest place some = cc
+    later (Some x) rest place some = refl
 
 inputs_named : (job : Request) → IsAcceptable job → list_all is_name (list_at job) ≡ true
 inputs_named job accepted = known (value_at job Inputs) (good job accepted Inputs).typed
   where
-  listed : (found : Option Items) → not (option_map_or (λ values. is_name_list (list_of values)) found false) ≡ false → list_all is_name (option_map_or list_of found []) ≡ true
-  listed None typed = cc
-  listed (Some values) typed = (both_true (nat_le 1 (length (list_of values)) && nat_le (length (list_of values)) 16) _ (not-false _ typed)).1
-  known : (found : Option Data) → option_map_or (λ value. not (holds_names value)) found false ≡ false → list_all is_name (option_map_or list_of (option_and_then as_array found) []) ≡ true
-  known None typed = refl
-  known (Some value) typed = listed (as_array value) typed
+    listed : (found : Option Items) → not (option_map_or (λ values. is_name_list (list_of values)) found false) ≡ false → list_all is_name (option_map_or list_of found []) ≡ true
+    listed None typed = cc
+    listed (Some values) typed = (both_true (nat_le 1 (length (list_of values)) && nat_le (length (list_of values)) 16) _ (not-false _ typed)).1
+
+    known : (found : Option Data) → option_map_or (λ value. not (holds_names value)) found false ≡ false → list_all is_name (option_map_or list_of (option_and_then as_array found) []) ≡ true
+    known None typed = refl
+    known (Some value) typed = listed (as_array value) typed
 
 -- the input at a place is the name that the value there is
 pub input_at : (job : Request) → IsAcceptable job → {V : Type 0} (view : V → Data) (values : List V) (place : ℕ) → map view values ≡ list_at job → slice_get (inputs_at job) place ≡ option_and_then name_in (option_map view (slice_get values place))

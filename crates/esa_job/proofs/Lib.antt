@@ -2,3 +2,4 @@ mod Outcomes
 pub mod ValueLemmas
 pub mod Acceptance
 pub mod KeyLemmas
+pub mod DropLemmas

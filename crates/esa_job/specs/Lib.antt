@@ -6,3 +6,4 @@ pub mod Refusal
 pub mod Draft
 pub mod Seen
 pub mod Keys
+pub mod Drops

@@ -59,36 +59,36 @@ no = Unused
 -- has to be there, which is a rule of its own.
 abbrev pub need_of : JobField → Command → Need
 --                          gen enc bat int shu run rel ana his upg rec pla aud
-need_of Job       = λ _. no
-need_of Keys      = columns no  yes no  no  yes yes yes yes no  no  no  no  no
-need_of Input     = columns no  yes yes no  yes yes yes yes yes yes yes no  yes
-need_of Inputs    = columns no  no  no  yes no  no  no  no  no  no  no  no  no
-need_of Output    = columns yes yes yes yes yes yes yes yes no  yes yes no  no
-need_of Trace     = columns no  no  no  no  may may may no  no  no  no  may no
-need_of Turns     = columns no  no  no  no  may may may no  no  no  no  may may
-need_of TurnsOut  = columns no  no  no  no  may may may no  no  no  no  no  no
-need_of Drops     = columns no  no  no  no  may may no  no  no  no  no  no  no
-need_of Coins     = columns no  no  no  no  may may may no  no  no  no  may may
-need_of Seed      = columns no  no  no  no  may may may no  no  no  no  may may
-need_of Draw      = columns no  no  no  no  may may may no  no  no  no  may may
-need_of Records   = columns yes no  no  no  no  no  no  no  no  no  no  yes yes
-need_of Crowds    = columns yes no  no  no  no  no  no  no  no  no  no  no  no
-need_of Number    = columns yes no  no  no  no  no  no  no  no  no  no  no  no
-need_of NonceBase = columns no  yes no  no  no  no  yes no  no  no  no  no  no
-need_of Form      = columns no  may may may no  no  no  no  no  no  no  may may
-need_of Epoch     = columns no  may may may no  no  no  no  no  no  no  no  no
-need_of Shares    = columns no  may no  no  no  no  no  no  no  no  no  no  no
-need_of B         = columns no  no  no  no  yes yes yes no  no  no  no  yes yes
-need_of C         = columns no  no  no  no  yes yes yes no  no  no  no  yes yes
-need_of S         = columns no  no  no  no  yes yes yes no  no  no  no  yes yes
-need_of K         = columns no  no  no  no  yes yes yes no  no  no  no  yes yes
-need_of W         = columns no  no  no  no  yes yes yes no  no  no  no  yes yes
-need_of Q         = columns no  no  no  no  yes yes yes no  no  no  no  yes yes
-need_of Workers   = columns no  no  no  no  yes yes yes no  no  no  no  yes yes
-need_of Attempts  = columns no  no  no  no  yes yes yes no  no  no  no  yes yes
-need_of M         = columns no  no  yes yes yes yes yes no  no  no  no  no  no
-need_of T         = columns no  no  no  no  yes yes no  no  no  no  no  no  no
-need_of Mode      = columns no  no  no  yes yes yes yes no  no  no  no  yes yes
+need_of Job = λ _. no
+need_of Keys = columns no yes no no yes yes yes yes no no no no no
+need_of Input = columns no yes yes no yes yes yes yes yes yes yes no yes
+need_of Inputs = columns no no no yes no no no no no no no no no
+need_of Output = columns yes yes yes yes yes yes yes yes no yes yes no no
+need_of Trace = columns no no no no may may may no no no no may no
+need_of Turns = columns no no no no may may may no no no no may may
+need_of TurnsOut = columns no no no no may may may no no no no no no
+need_of Drops = columns no no no no may may no no no no no no no
+need_of Coins = columns no no no no may may may no no no no may may
+need_of Seed = columns no no no no may may may no no no no may may
+need_of Draw = columns no no no no may may may no no no no may may
+need_of Records = columns yes no no no no no no no no no no yes yes
+need_of Crowds = columns yes no no no no no no no no no no no no
+need_of Number = columns yes no no no no no no no no no no no no
+need_of NonceBase = columns no yes no no no no yes no no no no no no
+need_of Form = columns no may may may no no no no no no no may may
+need_of Epoch = columns no may may may no no no no no no no no no
+need_of Shares = columns no may no no no no no no no no no no no
+need_of B = columns no no no no yes yes yes no no no no yes yes
+need_of C = columns no no no no yes yes yes no no no no yes yes
+need_of S = columns no no no no yes yes yes no no no no yes yes
+need_of K = columns no no no no yes yes yes no no no no yes yes
+need_of W = columns no no no no yes yes yes no no no no yes yes
+need_of Q = columns no no no no yes yes yes no no no no yes yes
+need_of Workers = columns no no no no yes yes yes no no no no yes yes
+need_of Attempts = columns no no no no yes yes yes no no no no yes yes
+need_of M = columns no no yes yes yes yes yes no no no no no no
+need_of T = columns no no no no yes yes no no no no no no no
+need_of Mode = columns no no no yes yes yes yes no no no no yes yes
 
 -- plans are for handed-in turns alone
 abbrev pub only_plans : Command → Bool

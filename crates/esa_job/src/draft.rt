@@ -5,13 +5,12 @@ ghost use Rattle.std.specs.List.{list_any};
 ghost use Rattle.serde_json.specs.View.{view};
 ghost use Rattle.esa_job.specs.Refusal.{is_ill_typed, is_missing, lacks_coins, draws_separators, breaks_rule, is_bad, first_bad, runs_crew, crew_refusal, is_name_of, is_named, has_name, is_taken, clashes, first_clash, params_of, number_or_zero, first_param_past, is_past, first_other_past, first_limit_past, field_refusal, refusal_of};
 
-use esa_params::{ParamField, Params, check};
-use serde_json::Value;
-
 use crate::command::Command;
 use crate::field::{JobField, Need};
 use crate::job::JobRefused;
 use crate::value::{Draw, Mode, draw_in, key_in, mode_in, name_in, number_in};
+use esa_params::{ParamField, Params, check};
+use serde_json::Value;
 
 /// The command of a job, and the JSON object that its file is.
 #[derive(Drop)]
@@ -111,7 +110,10 @@ impl Draft {
     fn first_bad(&self) -> Option<JobField>
         ensures { result ≡ first_bad (drafted self.now) }
     {
-        JobField::IN_ORDER.iter().copied().find(|field| self.is_bad(*field))
+        JobField::IN_ORDER
+            .iter()
+            .copied()
+            .find(|field| self.is_bad(*field))
     }
 
     // ---- workers

@@ -234,11 +234,8 @@ impl JobField {
             },
             // The coins or the seed have to be there: which of them is a rule of its own.
             JobField::Turns | JobField::Coins | JobField::Seed | JobField::Draw => match command {
-                Command::Shuffle
-                | Command::Run
-                | Command::Relay
-                | Command::Plan
-                | Command::Audit => Need::Optional,
+                Command::Shuffle | Command::Run | Command::Relay | Command::Plan | Command::Audit =>
+                    Need::Optional,
                 _ => Need::Unused,
             },
             JobField::TurnsOut => match command {
@@ -285,11 +282,8 @@ impl JobField {
             | JobField::Q
             | JobField::Workers
             | JobField::Attempts => match command {
-                Command::Shuffle
-                | Command::Run
-                | Command::Relay
-                | Command::Plan
-                | Command::Audit => Need::Needed,
+                Command::Shuffle | Command::Run | Command::Relay | Command::Plan | Command::Audit =>
+                    Need::Needed,
                 _ => Need::Unused,
             },
             JobField::M => match command {

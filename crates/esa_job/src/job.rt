@@ -5,14 +5,13 @@ ghost use Rattle.esa_job.specs.Refusal.{IsAcceptable};
 ghost use Rattle.esa_job.specs.Draft.{drafted};
 ghost use Rattle.esa_job.specs.Values.{form_number};
 
-use esa_json::read_object;
-use esa_params::{Form, ParamField, Settings, check};
-use std::alloc::Global;
-
 use crate::command::Command;
 use crate::draft::Draft;
 use crate::field::{JobField, Kind};
 use crate::value::{Draw, Mode, name_in};
+use esa_json::read_object;
+use esa_params::{Form, ParamField, Settings, check};
+use std::alloc::Global;
 
 /// Why a job was refused.
 #[derive(Clone, Copy, PartialEq, Eq, Debug)]
@@ -53,6 +52,7 @@ impl Job {
         bytes: &[u8],
     ) -> Result<Job, JobRefused>
         ensures ok { IfOk result (λ job. job_of command crew_allowed job_name.now bytes.now ≡ Ok (request_of job)) }
+        ensures command { IfOk result (λ job. (request_of job).command ≡ command) }
         ensures err { IfErr result (λ e. (e ≡ JobRefused.OutOfMemory)
             ⊎ (job_of command crew_allowed job_name.now bytes.now ≡ Err e)) }
     {

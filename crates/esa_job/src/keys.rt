@@ -5,13 +5,12 @@ ghost use Rattle.serde_json.specs.View.{view};
 ghost use Rattle.esa_job.specs.Word.{key_word};
 ghost use Rattle.esa_job.specs.Keys.{needs_key, key_at, is_bad_key, first_bad_key};
 
+use crate::command::Command;
+use crate::value::key_in;
 use esa_json::read_object;
 use serde_json::Value;
 use std::alloc::Global;
 use std::marker::Model;
-
-use crate::command::Command;
-use crate::value::key_in;
 
 /// A key of a keys file, or the file as a whole.
 #[derive(Clone, Copy, PartialEq, Eq, Debug)]

@@ -5,10 +5,9 @@ ghost use Rattle.std.specs.List.{list_all};
 ghost use Rattle.serde_json.specs.View.{view};
 ghost use Rattle.esa_job.specs.Values.{accepts, draw_in, key_in, mode_in, name_in, number_in, is_name, is_name_list, holds_names, draw_named, mode_named};
 
+use crate::field::Kind;
 use hex::FromHex;
 use serde_json::Value;
-
-use crate::field::Kind;
 
 /// How the targets of a bucket are drawn.
 #[derive(Clone, Copy, PartialEq, Eq, Debug)]

@@ -41,3 +41,6 @@ pub enum Role {
     TurnsOut,
     Printer,
 }
+
+#[cfg(test)]
+mod tests;

@@ -6,5 +6,10 @@
 #![tactic(auto)]
 
 mod coins;
+mod event;
 
 pub use coins::Coins;
+pub use event::{Event, Verdict};
+
+#[cfg(test)]
+mod cases;

@@ -1,0 +1,11 @@
+pub mod AfterLaws
+pub mod FinishLaws
+pub mod LineLaws
+pub mod PermLaws
+pub mod QueueLaws
+pub mod Ranges
+pub mod RoundLaws
+pub mod SpreadLaws
+pub mod Sums
+pub mod TotalLaws
+pub mod TurnLaws

@@ -1,0 +1,10 @@
+//! Writes a file through a page of fixed size.
+//!
+//! Bytes wait in the page until it is full, and go to the file's end together. So a file of any length is
+//! written in few calls, and without memory. What a failed call leaves is a front of the whole file. The
+//! crate stands on `esa_outside`.
+#![tactic(auto)]
+
+mod page;
+
+pub use page::{PAGE, Page};

@@ -1,0 +1,25 @@
+-- Zero bytes are copies of zero.
+use Rattle.std.proofs.Common.{◌≡◌, ℕ, zero, suc, true, List, [], ◌∷◌, length, drop, eqb, refl, ap}
+use Rattle.std.specs.Prelude.{replicate}
+use Rattle.std.proofs.lemmas.Bool.{and_parts, eqb-true}
+use Rattle.esa_report.specs.Item.{zero_body}
+use Rattle.esa_report.specs.Zero.{is_zero}
+
+pub replicate-zero : (bytes : List ℕ) → is_zero bytes ≡ true → bytes ≡ replicate (length bytes) 0
+replicate-zero [] h = refl
+replicate-zero (byte ∷ rest) h =
+    let parts = and_parts (eqb byte 0) (is_zero rest) h in
+    rw (eqb-true byte 0 parts.0) (ap (λ more. 0 ∷ more) (replicate-zero rest parts.1))
+
+pub is_zero-replicate : (n : ℕ) → is_zero (replicate n 0) ≡ true
+is_zero-replicate zero = refl
+is_zero-replicate (suc n) = is_zero-replicate n
+
+pub is_zero-drop : (n : ℕ) (bytes : List ℕ) → is_zero bytes ≡ true → is_zero (drop n bytes) ≡ true
+is_zero-drop zero bytes h = h
+is_zero-drop (suc n) [] h = refl
+is_zero-drop (suc n) (byte ∷ rest) h = is_zero-drop n rest (and_parts (eqb byte 0) (is_zero rest) h).1
+
+pub is_zero-zero_body : is_zero zero_body ≡ true
+unfolding zero_body
+is_zero-zero_body = is_zero-replicate 264

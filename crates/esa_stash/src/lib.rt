@@ -1,0 +1,13 @@
+//! The bounded stash of the shuffle's distribution, as one arena of cells.
+#![tactic(auto)]
+
+mod cells;
+mod dealing;
+mod item;
+mod links;
+mod stash;
+mod totals;
+
+pub use cells::Cells;
+pub use item::{Item, Kind};
+pub use stash::{Left, Overflow, Stash};
