@@ -24,8 +24,9 @@ misses_within : {A : Type 0} (limit : ℕ) (source other : Source) (held : Optio
 misses_within limit source other None next pure is = cc
 misses_within limit source other (Some bytes) next pure is =
     elim (nat_lt limit (length bytes)) as (λ large. (cond large (refused (Large (role_of source))) (accepted bytes) >>= next) ≡ missing other → other ≡ source) [
-      true ↦ λ e. cc
-    | false ↦ λ e. absurd (pure.nothing bytes other e) ] is
+      | true ↦ λ e. cc
+      | false ↦ λ e. absurd (pure.nothing bytes other e)
+    ] is
 
 pub misses_file : {A : Type 0} (command : Command) (source : Source) (name : List ℕ) (next : List ℕ → Step A) → ReadsNothing next → MissesOnly source (λ read. file command source name read >>= next)
 misses_file command source name next pure = record { only = λ read other is. misses_within (limit_of command source) source other (read source name) next pure is }
@@ -38,9 +39,10 @@ stops_too whole steps next read source start before now (Refused refusal) only w
 stops_too whole steps next read source start before now (Unread other) only with out kept stops =
     let same : other ≡ source = only.only _ other stops.0 in
     let reached : steps (without source read) ≡ missing source = subst (λ s. steps (without s read) ≡ missing s) same stops.0 in
-    let there : whole (without source read) ≡ missing source = out ∙ ap (λ step. step >>= next (without source read)) reached in
-    (subst (λ s. whole (without s read) ≡ missing s) (sym same) there,
-     ⊎_elim (λ rose. inl (subst (λ n. Rose n now) kept rose)) (λ lacks. inr (with ∙ ap (λ step. step >>= next read) lacks)) stops.1)
+    let there : whole (without source read) ≡ missing source = out ∙ ap (λ step. step >>= next (without source read)) reached in (
+      subst (λ s. whole (without s read) ≡ missing s) (sym same) there,
+      ⊎_elim (λ rose. inl (subst (λ n. Rose n now) kept rose)) (λ lacks. inr (with ∙ ap (λ step. step >>= next read) lacks)) stops.1,
+    )
 stops_too whole steps next read source start before now OutOfMemory only with out kept stops = stops ∙ kept
 stops_too whole steps next read source start before now (Unwritten sink) only with out kept stops = stops
 stops_too whole steps next read source start before now Unprinted only with out kept stops = stops

@@ -14,5 +14,9 @@ mod taking;
 mod telling;
 mod words;
 
+pub use plain::esa_plain;
 pub use refusal::Refusal;
+pub use source::Source;
 pub use status::Status;
+pub use stop::{Sink, Stop};
+pub use telling::tell;
