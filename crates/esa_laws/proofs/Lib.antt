@@ -1,6 +1,7 @@
 pub mod AfterLaws
 pub mod FinishLaws
 pub mod LineLaws
+pub mod NonceLaws
 pub mod OrderLaws
 pub mod PermLaws
 pub mod PlaceLaws

@@ -6,6 +6,7 @@
 
 pub mod completions;
 pub mod lines;
+pub mod nonces;
 pub mod orders;
 pub mod permutations;
 pub mod queues;

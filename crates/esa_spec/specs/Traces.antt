@@ -4,6 +4,7 @@ use Rattle.esa_params.specs.Sizes.{Sizes, below}
 use Rattle.esa_params.specs.Slots.{at, access_of}
 use Rattle.esa_params.specs.declared.slot.Region.TheVariants.{Input, Mid, Tail, Output}
 use Rattle.esa_params.specs.declared.slot.Slot.{Slot}
+use Rattle.esa_params.specs.declared.slot.Op.{Op}
 use Rattle.esa_params.specs.declared.slot.Op.TheVariants.{Read as Reads, Write as Writes}
 use Rattle.esa_params.specs.declared.slot.Access.{Access}
 use Rattle.esa_spec.specs.Draws.{Draw}
@@ -117,3 +118,16 @@ scans p (Some a) = scan p a ++ scan p a
 -- all accesses of a run: those of the shuffle, and the two scans of its output
 abbrev pub trace : Sizes → (ℕ → Draw) → List (List ℕ) → List Access
 trace p ds hs = shuffle_trace p ds hs ++ scans p (good_attempt p ds 0 hs)
+
+-- an operation that writes leaves its nonce
+abbrev pub nonce_by : Op → ℕ → Option ℕ
+nonce_by Reads nonce = None
+nonce_by Writes nonce = Some nonce
+
+-- the nonce that an access writes
+abbrev pub written_nonce : Access → Option ℕ
+written_nonce access = nonce_by access.op access.nonce
+
+-- the nonces that are written, in turn
+abbrev pub written_nonces : List Access → List ℕ
+written_nonces accesses = filter_map written_nonce accesses
