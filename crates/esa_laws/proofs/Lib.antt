@@ -12,3 +12,5 @@ pub mod SpreadLaws
 pub mod Sums
 pub mod TotalLaws
 pub mod TurnLaws
+pub mod WalkLaws
+pub mod ExchangeLaws

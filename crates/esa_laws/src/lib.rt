@@ -4,6 +4,7 @@
 //! crate stands on the definitions alone, and takes no memory.
 #![tactic(auto)]
 
+pub mod attempts;
 pub mod completions;
 pub mod lines;
 pub mod nonces;

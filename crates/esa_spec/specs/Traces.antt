@@ -1,5 +1,5 @@
 -- The accesses of a shuffle, in their order: a function of the sizes, the targets and the turns.
-use Rattle.std.specs.Prelude.{ℕ, zero, suc, ◌+◌, ◌*◌, Bool, true, false, if◌then◌else◌, Option, Some, None, unwrap_or, List, [], ◌∷◌, ◌++◌, map, filter_map}
+use Rattle.std.specs.Prelude.{ℕ, zero, suc, ◌+◌, ◌*◌, Bool, true, false, ◌&&◌, if◌then◌else◌, Option, Some, None, unwrap_or, List, [], ◌∷◌, ◌++◌, map, filter_map}
 use Rattle.esa_params.specs.Sizes.{Sizes, below}
 use Rattle.esa_params.specs.Slots.{at, access_of}
 use Rattle.esa_params.specs.declared.slot.Region.TheVariants.{Input, Mid, Tail, Output}
@@ -87,6 +87,11 @@ attempt_trace p d a h = spread p d a h ++ rest p d a h (failing p d (order p.b h
 -- the attempt is finished and doesn't succeed, so that the next one follows
 abbrev pub is_failed : Sizes → Draw → List ℕ → Bool
 is_failed p d h = if is_finished p d h then (if is_good (verdict p d h) then false else true) else false
+
+-- each of these attempts, from attempt a on, is finished and doesn't succeed
+abbrev pub all_failed : Sizes → (ℕ → Draw) → ℕ → List (List ℕ) → Bool
+all_failed p ds a [] = true
+all_failed p ds a (h ∷ hs) = is_failed p (ds a) h && all_failed p ds (a + 1) hs
 
 -- the accesses of the attempts from attempt a on, by the turns of each
 abbrev pub attempts : Sizes → (ℕ → Draw) → ℕ → List (List ℕ) → List Access
