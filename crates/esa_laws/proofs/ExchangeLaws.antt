@@ -1,10 +1,7 @@
 -- The exchange of a bucket keeps its number, and a bucket that is exchanged now wasn't exchanged before.
-use Rattle.std.proofs.Common.{◌≡◌, ◌≢◌, ℕ, zero, suc, ◌+◌, ◌-◌, ◌≤◌, ◌<◌, ◌⊎◌, inl, inr, ⊎_elim, Bool, true, false, not, cond, ◌==◌, List, [], ◌∷◌, ◌++◌, length, refl, sym, ◌∙◌, ap, subst, arith}
-use Rattle.std.specs.List.{count_by, position_or_len}
-use Rattle.std.specs.Prelude.{Option, Some, None, option_to_list, nat_lt}
-use Rattle.std.proofs.lemmas.Bool.{cases_lt, cases_eq, eq-eqb, lt-ltb, le-ltb}
-use Rattle.std.proofs.lemmas.Bool.Decides.{nat_tests}
-use Rattle.std.proofs.lemmas.List.Sums.{sum_by-cons}
+use Rattle.std.proofs.Common.{◌≡◌, ℕ, suc, ◌+◌, ◌-◌, ◌≤◌, ◌<◌, ⊎_elim, Bool, true, false, not, cond, ◌==◌, List, [], ◌∷◌, ◌++◌, length, refl, sym, ◌∙◌, ap, arith}
+use Rattle.std.specs.Prelude.{Some, option_to_list}
+use Rattle.std.proofs.lemmas.Bool.{cases_lt, eq-eqb, lt-ltb, le-ltb}
 use Rattle.esa_laws.proofs.PermLaws.{occurrences, occurs-cons, occurs-append}
 use Rattle.esa_laws.proofs.RoundLaws.{next-by_phase}
 use Rattle.esa_laws.proofs.Sums.{bit}
@@ -12,7 +9,6 @@ use Rattle.esa_laws.proofs.TotalLaws.{at-most-once}
 use Rattle.esa_laws.proofs.TurnLaws.{order-push}
 use Rattle.esa_spec.specs.Places.{exchange_of}
 use Rattle.esa_spec.specs.Turns.{event_of, next, next_phase, held, exchanged, order}
-use Rattle.esa_spec.specs.declared.event.Event.{Event}
 use Rattle.esa_spec.specs.declared.event.Event.TheVariants.{Claim, Read, Exchange, Write, Done, Idle}
 
 -- the index of the first entry j, with more behind
@@ -44,9 +40,9 @@ exchange_of-push (x ∷ o) j none = new-by x j o (x == j) refl (sym (occurs-cons
 exchanged-in : (b g f j : ℕ) → exchanged (event_of b g f) ≡ Some j → j < b
 exchanged-in b g f j e = ⊎_elim
     (λ (g_in : g < b). inside g_in (f == 0) (f == 1) (f == 2)
-        (sym (ap (λ c. exchanged (cond c (cond (f == 0) (Claim g) (cond (f == 1) (Read g) (cond (f == 2) (Exchange g) (Write g (f - 3))))) (cond (f == 0) Done Idle))) (lt-ltb g b g_in)) ∙ e))
+    (sym (ap (λ c. exchanged (cond c (cond (f == 0) (Claim g) (cond (f == 1) (Read g) (cond (f == 2) (Exchange g) (Write g (f - 3))))) (cond (f == 0) Done Idle))) (lt-ltb g b g_in)) ∙ e))
     (λ (past : b ≤ g). absurd (outside (f == 0)
-        (sym (ap (λ c. exchanged (cond c (cond (f == 0) (Claim g) (cond (f == 1) (Read g) (cond (f == 2) (Exchange g) (Write g (f - 3))))) (cond (f == 0) Done Idle))) (le-ltb g b past)) ∙ e)))
+    (sym (ap (λ c. exchanged (cond c (cond (f == 0) (Claim g) (cond (f == 1) (Read g) (cond (f == 2) (Exchange g) (Write g (f - 3))))) (cond (f == 0) Done Idle))) (le-ltb g b past)) ∙ e)))
     (cases_lt g b)
   where
     inside : g < b → (x y z : Bool) → exchanged (cond x (Claim g) (cond y (Read g) (cond z (Exchange g) (Write g (f - 3))))) ≡ Some j → j < b
@@ -54,6 +50,7 @@ exchanged-in b g f j e = ⊎_elim
     inside g_in false true z e' = absurd (cc)
     inside g_in false false true e' = let is : g ≡ j = cc in omega arith
     inside g_in false false false e' = absurd (cc)
+
     outside : (x : Bool) → exchanged (cond x Done Idle) ≡ Some j → ⊥
     outside true e' = cc
     outside false e' = cc
@@ -66,5 +63,5 @@ pub exchange-new : (b : ℕ) (h : List ℕ) (w j : ℕ) → exchanged (next b h 
 exchange-new b h w j e =
     let o' : order b (h ++ w ∷ []) ≡ order b h ++ j ∷ [] = order-push b h w ∙ ap (λ y. order b h ++ option_to_list y) e in
     let twice : occurrences j (order b (h ++ w ∷ [])) ≡ occurrences j (order b h) + (bit (j == j) + 0) =
-        ap (occurrences j) o' ∙ occurs-append j (order b h) (j ∷ []) ∙ ap (λ y. occurrences j (order b h) + y) (occurs-cons j j []) in
+    ap (occurrences j) o' ∙ occurs-append j (order b h) (j ∷ []) ∙ ap (λ y. occurrences j (order b h) + y) (occurs-cons j j []) in
     omega (arith, twice, ap bit (eq-eqb j j refl), at-most-once b (h ++ w ∷ []) j (exchange-in b h w j e))

@@ -14,3 +14,4 @@ pub mod TotalLaws
 pub mod TurnLaws
 pub mod WalkLaws
 pub mod ExchangeLaws
+pub mod HistoryLaws

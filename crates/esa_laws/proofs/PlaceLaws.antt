@@ -289,17 +289,17 @@ module _ (p : Sizes) (d : Draw) (h : List ℕ) (drawn : IsDrawn p d) (all : writ
       let perm = order-permutes p.b h all in
       let single = λ (j : ℕ) (j_in : j < p.b). once p.b h j all j_in in
       permutes-counted (by_target p d i) (arranged p d o i) (λ x.
-          arranged-counts x (imports p d o i) (d.order i)
-              (subst (λ n. IsPermutation (below n) (d.order i)) (sym (length-imports p d drawn o each perm single i (fits-each i i_in))) (drawn.orders_permute i i_in))
-          ∙ import-counts p d drawn o each perm single i x
-          ∙ sym (sum-of-flat_map (λ z. bit (z == x)) (chosen_places p d i) (below p.b)))
+      arranged-counts x (imports p d o i) (d.order i)
+      (subst (λ n. IsPermutation (below n) (d.order i)) (sym (length-imports p d drawn o each perm single i (fits-each i i_in))) (drawn.orders_permute i i_in))
+      ∙ import-counts p d drawn o each perm single i x
+      ∙ sym (sum-of-flat_map (λ z. bit (z == x)) (chosen_places p d i) (below p.b)))
 
   pub length-arranged : (i : ℕ) → i < p.b → length (arranged p d (order p.b h) i) ≡ count_by (λ t. t == i) (targets p d)
   length-arranged i i_in =
       length_permutation (by_target p d i) (arranged p d (order p.b h) i) (arranged-permutes i i_in)
       ∙ length-flat_map (chosen_places p d i) (below p.b)
       ∙ sum-below-same (λ j. length (chosen_places p d i j)) (λ j. count_by (λ t. t == i) (d.targets j)) p.b
-          (λ j j_in. length-chosen i (d.targets j) (places_of p j) (drawn.target_for_each j j_in ∙ sym (length-range_with_len (first p j) (size p j))))
+      (λ j j_in. length-chosen i (d.targets j) (places_of p j) (drawn.target_for_each j j_in ∙ sym (length-range_with_len (first p j) (size p j))))
       ∙ sym (sum-of-flat_map (λ t. bit (t == i)) (λ e. e) (map d.targets (below p.b)) ∙ sum-of-map (count_by (λ t. t == i)) d.targets (below p.b))
 
   -- the queue takes as many places with each target as are reached more
@@ -311,8 +311,8 @@ module _ (p : Sizes) (d : Draw) (h : List ℕ) (drawn : IsDrawn p d) (all : writ
   length-imported (suc m) m_in =
       let o = order p.b h in
       let one : flat_map (arranged p d o) (below (suc m)) ≡ flat_map (arranged p d o) (below m) ++ arranged p d o m =
-          ap (flat_map (arranged p d o)) (below-suc m) ∙ flat_map-append (arranged p d o) (below m) (m ∷ [])
-          ∙ ap (λ y. flat_map (arranged p d o) (below m) ++ y) (append-nil (arranged p d o m)) in
+      ap (flat_map (arranged p d o)) (below-suc m) ∙ flat_map-append (arranged p d o) (below m) (m ∷ [])
+      ∙ ap (λ y. flat_map (arranged p d o) (below m) ++ y) (append-nil (arranged p d o m)) in
       ap length one ∙ length-append (flat_map (arranged p d o) (below m)) (arranged p d o m)
       ∙ ap (λ y. y + length (arranged p d o m)) (length-imported m (omega arith))
       ∙ sym (reached-arranged m m_in) ∙ ap (reached p d) (add-one m)

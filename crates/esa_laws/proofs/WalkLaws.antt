@@ -1,6 +1,6 @@
 -- The compression goes on step by step, and the attempts one by one.
-use Rattle.std.proofs.Common.{◌≡◌, ◌≢◌, ℕ, zero, suc, ◌+◌, ◌-◌, ◌*◌, ◌≤◌, ◌<◌, ◌⊎◌, inl, inr, ⊎_elim, Bool, true, false, cond, ◌&&◌, ◌==◌, List, [], ◌∷◌, ◌++◌, length, map, refl, sym, ◌∙◌, ap, subst, arith, append-nil, append_assoc}
-use Rattle.std.specs.List.{count_by, sum_by}
+use Rattle.std.proofs.Common.{◌≡◌, ℕ, ◌+◌, Bool, true, false, cond, ◌&&◌, ◌==◌, List, [], ◌∷◌, ◌++◌, length, map, refl, sym, ◌∙◌, ap, arith, append-nil, append_assoc}
+use Rattle.std.specs.List.{count_by}
 use Rattle.std.specs.Prelude.{Option, Some, None, nat_lt}
 use Rattle.std.proofs.lemmas.Bool.Decides.{nat_tests}
 use Rattle.std.proofs.lemmas.List.{map-append}
@@ -12,7 +12,6 @@ use Rattle.esa_spec.specs.Draws.{Draw}
 use Rattle.esa_spec.specs.Traces.{step_accesses, walk, attempt_trace, is_failed, all_failed, attempts, good_attempt}
 use Rattle.esa_spec.specs.Verdicts.{Step, step_verdict, is_good, first_bad, is_below, targets, reached, is_finished, verdict}
 use Rattle.esa_spec.specs.declared.event.Verdict.{Verdict}
-use Rattle.esa_spec.specs.declared.event.Verdict.TheVariants.{Good, StashOverflow, StashLeft, QueueOverflow, QueueStarved}
 
 -- the first verdict that isn't good, of lists joined
 bad-stays : (v : Verdict) (vs ws : List Verdict) (c : Bool) → is_good v ≡ c
@@ -36,7 +35,7 @@ module _ (p : Sizes) (d : Draw) where
   walk-by : (a : ℕ) (x : Step) (xs ys : List Step) (c : Bool) → is_good (step_verdict p d x) ≡ c
       → walk p d a (xs ++ ys) ≡ walk p d a xs ++ cond (is_good (steps_verdict xs)) (walk p d a ys) []
       → step_accesses p d a x ++ cond c (walk p d a (xs ++ ys)) []
-          ≡ (step_accesses p d a x ++ cond c (walk p d a xs) []) ++ cond (is_good (cond c (steps_verdict xs) (step_verdict p d x))) (walk p d a ys) []
+      ≡ (step_accesses p d a x ++ cond c (walk p d a xs) []) ++ cond (is_good (cond c (steps_verdict xs) (step_verdict p d x))) (walk p d a ys) []
   walk-by a x xs ys true e rest = ap (λ y. step_accesses p d a x ++ y) rest ∙ sym (append_assoc (step_accesses p d a x) (walk p d a xs) (cond (is_good (steps_verdict xs)) (walk p d a ys) []))
   walk-by a x xs ys false e rest =
       sym (append-nil (step_accesses p d a x ++ []))
@@ -53,8 +52,14 @@ one-test i t = grind (arith, nat_tests)
 below-more : (i : ℕ) (ts : List ℕ) → count_by (is_below (i + 1)) ts ≡ count_by (is_below i) ts + count_by (λ t. t == i) ts
 below-more i [] = refl
 below-more i (t ∷ ts) =
-    omega (arith, sum_by-cons (λ y. bit (is_below (i + 1) y)) t ts, sum_by-cons (λ y. bit (is_below i y)) t ts, sum_by-cons (λ y. bit (y == i)) t ts,
-        one-test i t, below-more i ts)
+    omega (
+      arith,
+      sum_by-cons (λ y. bit (is_below (i + 1) y)) t ts,
+      sum_by-cons (λ y. bit (is_below i y)) t ts,
+      sum_by-cons (λ y. bit (y == i)) t ts,
+      one-test i t,
+      below-more i ts,
+    )
 
 pub reached-more : (p : Sizes) (d : Draw) (i : ℕ) → reached p d (i + 1) ≡ reached p d i + count_by (λ t. t == i) (targets p d)
 reached-more p d i = below-more i (targets p d)
@@ -113,7 +118,7 @@ module _ (p : Sizes) (ds : ℕ → Draw) where
 
   pub attempts-push : (a : ℕ) (hs : List (List ℕ)) (h : List ℕ)
       → attempts p ds a (hs ++ h ∷ [])
-          ≡ attempts p ds a hs ++ cond (all_failed p ds a hs) (attempt_trace p (ds (a + length hs)) (a + length hs) h) []
+      ≡ attempts p ds a hs ++ cond (all_failed p ds a hs) (attempt_trace p (ds (a + length hs)) (a + length hs) h) []
   attempts-push a [] h =
       let here : a + 0 ≡ a = omega arith in
       ap (λ y. attempt_trace p (ds a) a h ++ y) (empty (is_failed p (ds a) h)) ∙ append-nil (attempt_trace p (ds a) a h)
@@ -122,7 +127,7 @@ module _ (p : Sizes) (ds : ℕ → Draw) where
       let next : a + 1 + length hs ≡ a + length (g ∷ hs) = omega arith in
       ap (λ y. attempt_trace p (ds a) a g ++ cond (is_failed p (ds a) g) y []) (attempts-push (a + 1) hs h)
       ∙ attempts-by (is_failed p (ds a) g) (all_failed p ds (a + 1) hs) (attempt_trace p (ds a) a g) (attempts p ds (a + 1) hs)
-          (attempt_trace p (ds (a + 1 + length hs)) (a + 1 + length hs) h)
+      (attempt_trace p (ds (a + 1 + length hs)) (a + 1 + length hs) h)
       ∙ ap (λ y. attempts p ds a (g ∷ hs) ++ cond (all_failed p ds a (g ∷ hs)) (attempt_trace p (ds y) y h) []) next
 
   -- which attempt succeeds

@@ -6,6 +6,7 @@
 
 pub mod attempts;
 pub mod completions;
+pub mod histories;
 pub mod lines;
 pub mod nonces;
 pub mod orders;

@@ -18,17 +18,10 @@ pub fn places_permute()
 /// What is imported for a target, arranged by its order, is the places that have it. So the places imported for the
 /// targets below m are as many as are reached.
 pub fn imports_are_reached()
-    ensures permutes {
-        (p : Sizes) (d : Draw) (h : List ℕ) → IsDrawn p d → writes p.b h ≡ p.b * p.b → left p d (order p.b h) ≡ None
-        → (i : ℕ) → i < p.b → IsPermutation (flat_map (chosen_places p d i) (below p.b)) (arranged p d (order p.b h) i)
-    }
-    ensures one {
-        (p : Sizes) (d : Draw) (h : List ℕ) → IsDrawn p d → writes p.b h ≡ p.b * p.b → left p d (order p.b h) ≡ None
-        → (i : ℕ) → i < p.b → reached p d (i + 1) ≡ reached p d i + length (arranged p d (order p.b h) i)
-    }
-    ensures all {
-        (p : Sizes) (d : Draw) (h : List ℕ) → IsDrawn p d → writes p.b h ≡ p.b * p.b → left p d (order p.b h) ≡ None
-        → (m : ℕ) → m ≤ p.b → length (flat_map (arranged p d (order p.b h)) (below m)) ≡ reached p d m
-    }
-{
-}
+    ensures permutes { (p : Sizes) (d : Draw) (h : List ℕ) → IsDrawn p d → writes p.b h ≡ p.b * p.b → left p d (order p.b h) ≡ None
+        → (i : ℕ) → i < p.b → IsPermutation (flat_map (chosen_places p d i) (below p.b)) (arranged p d (order p.b h) i) }
+    ensures one { (p : Sizes) (d : Draw) (h : List ℕ) → IsDrawn p d → writes p.b h ≡ p.b * p.b → left p d (order p.b h) ≡ None
+        → (i : ℕ) → i < p.b → reached p d (i + 1) ≡ reached p d i + length (arranged p d (order p.b h) i) }
+    ensures all { (p : Sizes) (d : Draw) (h : List ℕ) → IsDrawn p d → writes p.b h ≡ p.b * p.b → left p d (order p.b h) ≡ None
+        → (m : ℕ) → m ≤ p.b → length (flat_map (arranged p d (order p.b h)) (below m)) ≡ reached p d m }
+{}

@@ -19,11 +19,8 @@ pub fn each_bucket_once()
 
 /// The exchange of a bucket keeps its number, and a bucket that is exchanged now is a new one.
 pub fn exchanges_are_numbered()
-    ensures stays {
-        (o more : List ℕ) (j : ℕ) → 1 ≤ count_by (λ i. i == j) o → exchange_of (o ++ more) j ≡ exchange_of o j
-    }
+    ensures stays { (o more : List ℕ) (j : ℕ) → 1 ≤ count_by (λ i. i == j) o → exchange_of (o ++ more) j ≡ exchange_of o j }
     ensures last { (o : List ℕ) (j : ℕ) → count_by (λ i. i == j) o ≡ 0 → exchange_of (o ++ j ∷ []) j ≡ length o }
     ensures bucket { (b : ℕ) (h : List ℕ) (w j : ℕ) → exchanged (next b h w) ≡ Some j → j < b }
     ensures fresh { (b : ℕ) (h : List ℕ) (w j : ℕ) → exchanged (next b h w) ≡ Some j → count_by (λ i. i == j) (order b h) ≡ 0 }
-{
-}
+{}
