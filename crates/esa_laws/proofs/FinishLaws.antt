@@ -1,14 +1,14 @@
 -- A completed list of turns comes to its end.
-use Rattle.std.proofs.Common.{◌≡◌, ℕ, zero, suc, ◌+◌, ◌*◌, ◌%◌, ◌≤◌, ◌<◌, ⊎_elim, Bool, true, false, cond, ◌||◌, ◌==◌, List, [], ◌∷◌, ◌++◌, length, take, refl, sym, ◌∙◌, ap, subst, arith, length-append, length-take}
+use Rattle.std.proofs.Common.{◌≡◌, ℕ, zero, suc, ◌+◌, ◌*◌, ◌%◌, ◌≤◌, ◌<◌, ⊎_elim, Bool, true, false, cond, ◌||◌, ◌==◌, List, [], ◌∷◌, ◌++◌, length, take, refl, sym, ◌∙◌, ap, subst, arith, length-append, length-take, get_or, ◌-◌}
 use Rattle.std.specs.List.{find, All}
 use Rattle.std.specs.Prelude.{Option, Some, None, is_some, unwrap_or, slice_index_or}
 use Rattle.std.specs.Option.{option_or}
 use Rattle.std.proofs.Math.Bool.{or-true}
-use Rattle.std.proofs.Math.Nat.{le_of_mul-le-mul_right, mod-eq_of_lt, mul-le-mul_right}
+use Rattle.std.proofs.Math.Nat.{le_of_mul-le-mul_right, mod-eq_of_lt, add-mod_right, mul-le-mul_right}
 use Rattle.std.proofs.lemmas.Bool.{cases_lt, eq-eqb}
 use Rattle.std.proofs.lemmas.Bool.Decides.{nat_tests}
-use Rattle.std.proofs.lemmas.List.{take_all, take_at, take-take, take-append-le, length-take-le}
-use Rattle.std.proofs.lemmas.List.FromFn.{length-range_with_len}
+use Rattle.std.proofs.lemmas.List.{take_all, take_at, take-take, take-append-le, length-take-le, get_or_append_left, get_or-append_right, get_or-append-add}
+use Rattle.std.proofs.lemmas.List.FromFn.{length-range_with_len, get_or-range_with_len}
 use Rattle.std.proofs.lemmas.List.Sums.{sum_by-cons, sum_by-append}
 use Rattle.std.proofs.lemmas.List.Elements.{All-append}
 use Rattle.esa_params.specs.Sizes.{Sizes, below}
@@ -225,3 +225,37 @@ module _ (p : Sizes) (d : Draw) (turns : List ℕ) where
 
     pub prefix-finished : is_finished p d (full p d turns) ≡ true
     prefix-finished = full-finished (length turns) reaches there
+
+contrary : {c : Bool} → c ≡ true → c ≡ false → ⊥
+contrary passes fails = cc
+
+-- the completion, as it is found turn by turn
+pub full-next : (p : Sizes) (d : Draw) (turns : List ℕ) (m : ℕ) → m ≤ length (completed p turns)
+    → is_finished p d (take m (completed p turns)) ≡ true → ((x : ℕ) → x < m → is_finished p d (take x (completed p turns)) ≡ false)
+    → full p d turns ≡ take m (completed p turns)
+full-next p d turns m m_in ends earlier =
+    let f = least (is_finished_at p d (completed p turns)) (length (completed p turns) + 1) m (omega arith) ends in
+    let same : f.number ≡ m = ⊎_elim
+    (λ (less : f.number < m). let no = earlier f.number less in absurd (contrary f.passes no))
+    (λ (not_less : m ≤ f.number). omega (arith, f.no_later))
+    (cases_lt f.number m) in
+    ap (λ y. take (unwrap_or y (length (completed p turns))) (completed p turns)) f.found ∙ ap (λ y. take y (completed p turns)) same
+
+-- the turn at an index of a completed list
+again-at : (w n y : ℕ) → y < n * w → get_or (again n (below w)) y 0 ≡ y % w
+again-at w zero y y_in = absurd (omega arith)
+again-at w (suc n) y y_in = ⊎_elim
+    (λ (first : y < w).
+    get_or_append_left (below w) (again n (below w)) 0 y (omega (arith, length-range_with_len 0 w))
+    ∙ get_or-range_with_len 0 w y 0 first ∙ omega (arith, mod-eq_of_lt first))
+    (λ (later : w ≤ y).
+    let rest : (y - w) + w ≡ y = omega arith in
+    get_or-append_right (below w) (again n (below w)) w y 0 (length-range_with_len 0 w) later
+    ∙ again-at w n (y - w) (omega arith) ∙ sym (add-mod_right (y - w) w) ∙ ap (λ z. z % w) rest)
+    (cases_lt y w)
+
+pub completed-turn : (p : Sizes) (turns : List ℕ) (x : ℕ) → x < length turns → get_or (completed p turns) x 0 ≡ get_or turns x 0
+completed-turn p turns x x_in = get_or_append_left turns (added p) 0 x x_in
+
+pub completed-added : (p : Sizes) (turns : List ℕ) (y : ℕ) → y < p.b * (p.b + 3) * p.workers → get_or (completed p turns) (length turns + y) 0 ≡ y % p.workers
+completed-added p turns y y_in = get_or-append-add turns (added p) y 0 ∙ again-at p.workers (p.b * (p.b + 3)) y y_in

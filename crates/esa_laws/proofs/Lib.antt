@@ -1,6 +1,7 @@
 pub mod AfterLaws
 pub mod FinishLaws
 pub mod LineLaws
+pub mod NonceLaws
 pub mod OrderLaws
 pub mod PermLaws
 pub mod PlaceLaws
@@ -11,3 +12,6 @@ pub mod SpreadLaws
 pub mod Sums
 pub mod TotalLaws
 pub mod TurnLaws
+pub mod WalkLaws
+pub mod ExchangeLaws
+pub mod HistoryLaws

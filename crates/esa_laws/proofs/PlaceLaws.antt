@@ -6,10 +6,10 @@ use Rattle.std.specs.Prelude.{Option, Some, None, nat_lt}
 use Rattle.std.proofs.lemmas.Bool.{eq-eqb}
 use Rattle.std.proofs.lemmas.Bool.Decides.{nat_tests}
 use Rattle.std.proofs.lemmas.List.{map-id, get_or-take, get_or-drop, take-append-drop, take_all, drop_all, length-map, length-replicate}
-use Rattle.std.proofs.lemmas.List.Concat.{length-flat_map}
+use Rattle.std.proofs.lemmas.List.Concat.{length-flat_map, flat_map-append}
 use Rattle.std.proofs.lemmas.List.Folds.{sum_by-replicate}
 use Rattle.std.proofs.lemmas.List.FromFn.{fill_by_all, length-range_with_len, get_or-range_with_len, map-range_with_len_more}
-use Rattle.std.proofs.lemmas.List.Sorted.{sum_by-IsPermutation, All-permutation}
+use Rattle.std.proofs.lemmas.List.Sorted.{sum_by-IsPermutation, All-permutation, length_permutation}
 use Rattle.std.proofs.lemmas.List.Sums.{sum_by-cons, sum_by-append, get_or-le-sum_by, position_or_len_is}
 use Rattle.std.proofs.lemmas.Option.{unwrap_or-slice_get}
 use Rattle.esa_params.specs.Sizes.{Sizes, first, size, below, places_of}
@@ -25,8 +25,9 @@ use Rattle.esa_spec.specs.Draws.{Draw, IsDrawn, chosen}
 use Rattle.esa_spec.specs.Lines.{chosen_places, batches, backlog, chunk, tail}
 use Rattle.esa_spec.specs.Places.{exchange_of, padded, padded_chunk, imports, entry, arranged, places}
 use Rattle.esa_spec.specs.Queue.{joined, departed, leaving, queue}
-use Rattle.esa_spec.specs.Turns.{order}
-use Rattle.esa_spec.specs.Verdicts.{left, is_left, drained, settled, is_finished, verdict}
+use Rattle.esa_spec.specs.Turns.{order, writes}
+use Rattle.esa_laws.proofs.WalkLaws.{reached-more, reached-zero}
+use Rattle.esa_spec.specs.Verdicts.{targets, reached, left, is_left, drained, settled, is_finished, verdict}
 use Rattle.esa_spec.specs.declared.event.Verdict.TheVariants.{Good}
 
 -- the numbers of a list by its indexes
@@ -120,6 +121,17 @@ position-in : (test : ℕ → Bool) (xs : List ℕ) → 1 ≤ count_by test xs �
 position-in test [] some = absurd (omega arith)
 position-in test (x ∷ xs) some = position-here test x xs (test x) refl
     (λ e. position-in test xs (omega (arith, sum_by-cons (λ y. bit (test y)) x xs, ap bit e)))
+
+-- how many elements have a target
+length-chosen-step : (i t y : ℕ) (ts ys : List ℕ) (c : Bool) → length (cond c (y ∷ chosen i ts ys) (chosen i ts ys)) ≡ bit c + length (chosen i ts ys)
+length-chosen-step i t y ts ys true = omega arith
+length-chosen-step i t y ts ys false = omega arith
+
+length-chosen : (i : ℕ) (ts ys : List ℕ) → length ts ≡ length ys → length (chosen i ts ys) ≡ count_by (λ t. t == i) ts
+length-chosen i [] ys long = refl
+length-chosen i (t ∷ ts) [] long = absurd (omega arith)
+length-chosen i (t ∷ ts) (y ∷ ys) long =
+    omega (arith, length-chosen-step i t y ts ys (t == i), sum_by-cons (λ z. bit (z == i)) t ts, length-chosen i ts ys (omega arith))
 
 -- the places of a bucket are those of its targets
 chosen-step : (x i t y : ℕ) (ts ys : List ℕ) (c : Bool)
@@ -261,3 +273,46 @@ good-by p d h some drawn (done ok all) good =
 
 pub places-permute : (p : Sizes) (d : Draw) (h : List ℕ) → 1 ≤ p.b → IsDrawn p d → is_finished p d h ≡ true → verdict p d h ≡ Good → IsPermutation (below p.n) (places p d h)
 places-permute p d h some drawn finished good = good-by p d h some drawn (ended p d h finished) good
+
+-- what is imported for a target is the places that have it
+abbrev pub by_target : Sizes → Draw → ℕ → List ℕ
+by_target p d i = flat_map (chosen_places p d i) (below p.b)
+
+module _ (p : Sizes) (d : Draw) (h : List ℕ) (drawn : IsDrawn p d) (all : writes p.b h ≡ p.b * p.b) (fits : left p d (order p.b h) ≡ None) where
+  fits-each : (i : ℕ) → i < p.b → backlog p d (order p.b h) p.b i ≤ p.k
+  fits-each i i_in = not_above p.k (backlog p d (order p.b h) p.b i) (none-found (is_left p d (order p.b h)) p.b fits i i_in)
+
+  pub arranged-permutes : (i : ℕ) → i < p.b → IsPermutation (by_target p d i) (arranged p d (order p.b h) i)
+  arranged-permutes i i_in =
+      let o = order p.b h in
+      let each = all-exchanged p.b h all in
+      let perm = order-permutes p.b h all in
+      let single = λ (j : ℕ) (j_in : j < p.b). once p.b h j all j_in in
+      permutes-counted (by_target p d i) (arranged p d o i) (λ x.
+      arranged-counts x (imports p d o i) (d.order i)
+      (subst (λ n. IsPermutation (below n) (d.order i)) (sym (length-imports p d drawn o each perm single i (fits-each i i_in))) (drawn.orders_permute i i_in))
+      ∙ import-counts p d drawn o each perm single i x
+      ∙ sym (sum-of-flat_map (λ z. bit (z == x)) (chosen_places p d i) (below p.b)))
+
+  pub length-arranged : (i : ℕ) → i < p.b → length (arranged p d (order p.b h) i) ≡ count_by (λ t. t == i) (targets p d)
+  length-arranged i i_in =
+      length_permutation (by_target p d i) (arranged p d (order p.b h) i) (arranged-permutes i i_in)
+      ∙ length-flat_map (chosen_places p d i) (below p.b)
+      ∙ sum-below-same (λ j. length (chosen_places p d i j)) (λ j. count_by (λ t. t == i) (d.targets j)) p.b
+      (λ j j_in. length-chosen i (d.targets j) (places_of p j) (drawn.target_for_each j j_in ∙ sym (length-range_with_len (first p j) (size p j))))
+      ∙ sym (sum-of-flat_map (λ t. bit (t == i)) (λ e. e) (map d.targets (below p.b)) ∙ sum-of-map (count_by (λ t. t == i)) d.targets (below p.b))
+
+  -- the queue takes as many places with each target as are reached more
+  pub reached-arranged : (i : ℕ) → i < p.b → reached p d (i + 1) ≡ reached p d i + length (arranged p d (order p.b h) i)
+  reached-arranged i i_in = reached-more p d i ∙ ap (λ y. reached p d i + y) (sym (length-arranged i i_in))
+
+  pub length-imported : (m : ℕ) → m ≤ p.b → length (flat_map (arranged p d (order p.b h)) (below m)) ≡ reached p d m
+  length-imported zero m_in = sym (reached-zero p d)
+  length-imported (suc m) m_in =
+      let o = order p.b h in
+      let one : flat_map (arranged p d o) (below (suc m)) ≡ flat_map (arranged p d o) (below m) ++ arranged p d o m =
+      ap (flat_map (arranged p d o)) (below-suc m) ∙ flat_map-append (arranged p d o) (below m) (m ∷ [])
+      ∙ ap (λ y. flat_map (arranged p d o) (below m) ++ y) (append-nil (arranged p d o m)) in
+      ap length one ∙ length-append (flat_map (arranged p d o) (below m)) (arranged p d o m)
+      ∙ ap (λ y. y + length (arranged p d o m)) (length-imported m (omega arith))
+      ∙ sym (reached-arranged m m_in) ∙ ap (reached p d) (add-one m)

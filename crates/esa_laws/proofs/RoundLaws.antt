@@ -91,13 +91,13 @@ start-write : (b g j : ℕ) → is_write_of j (event_of b g 0) ≡ false
 start-write b g j = let P : Event → Type 0 = λ e. is_write_of j e ≡ false in chosen_one P (nat_lt g b) _ _ refl refl
 
 -- the events of a round
-event-exchange : (b g : ℕ) → g < b → event_of b g 2 ≡ Exchange g
+pub event-exchange : (b g : ℕ) → g < b → event_of b g 2 ≡ Exchange g
 event-exchange b g g_in = ap (λ y. cond y (Exchange g) Idle) (lt-ltb g b g_in)
 
-event-read : (b g : ℕ) → g < b → event_of b g 1 ≡ Read g
+pub event-read : (b g : ℕ) → g < b → event_of b g 1 ≡ Read g
 event-read b g g_in = ap (λ y. cond y (Read g) Idle) (lt-ltb g b g_in)
 
-event-write : (b g f : ℕ) → g < b → 3 ≤ f → event_of b g f ≡ Write g (f - 3)
+pub event-write : (b g f : ℕ) → g < b → 3 ≤ f → event_of b g f ≡ Write g (f - 3)
 event-write b g f g_in late =
     let not_claim = not_same f 0 (λ e. omega arith) in
     let not_read = not_same f 1 (λ e. omega arith) in
@@ -143,10 +143,10 @@ module _ (b : ℕ) (h : List ℕ) (w : ℕ) where
   pub own-phase : next_phase b (h ++ w ∷ []) w ≡ (next_phase b h w + 1) % (b + 3)
   own-phase = ap (λ y. y % (b + 3)) own-turns ∙ step_mod (b + 3) (turns_of w h) (next_phase b h w) refl
 
-  phase-more : next_phase b h w + 1 < b + 3 → next_phase b (h ++ w ∷ []) w ≡ next_phase b h w + 1
+  pub phase-more : next_phase b h w + 1 < b + 3 → next_phase b (h ++ w ∷ []) w ≡ next_phase b h w + 1
   phase-more short = own-phase ∙ mod-eq_of_lt short
 
-  phase-end : next_phase b h w + 1 ≡ b + 3 → next_phase b (h ++ w ∷ []) w ≡ 0
+  pub phase-end : next_phase b h w + 1 ≡ b + 3 → next_phase b (h ++ w ∷ []) w ≡ 0
   phase-end full = own-phase ∙ ap (λ y. y % (b + 3)) full ∙ mod_self (b + 3)
 
   pub claims-start : next_phase b h w ≡ 0 → claims b (h ++ w ∷ []) ≡ claims b h + 1
@@ -179,10 +179,10 @@ not_multiple t c m le ne = ⊎_elim
 
 -- the turn begins a round
 module _ (b : ℕ) (h : List ℕ) (w : ℕ) (r : Rounds b h) (start : next_phase b h w ≡ 0) where
-  first-phase : next_phase b (h ++ w ∷ []) w ≡ 1
+  pub first-phase : next_phase b (h ++ w ∷ []) w ≡ 1
   first-phase = phase-more b h w (omega (arith, start)) ∙ ap (λ y. y + 1) start
 
-  new-held : held b (h ++ w ∷ []) w ≡ claims b h
+  pub new-held : held b (h ++ w ∷ []) w ≡ claims b h
   new-held = held-own b h w (λ e. absurd (omega (arith, first-phase, e))) ∙ held-at_claim b h w start
 
   no-exchange : (j : ℕ) → exchanges_of b (h ++ w ∷ []) j ≡ exchanges_of b h j
@@ -198,7 +198,7 @@ module _ (b : ℕ) (h : List ℕ) (w : ℕ) (r : Rounds b h) (start : next_phase
       ∙ ap (λ y. writes_of b h j + cond y 1 0) (start-write b (held b h w) j) ∙ omega arith
 
   -- another worker stands where it stood
-  as-before : (v : ℕ) → v ≢ w → next_phase b (h ++ w ∷ []) v ≢ 0 → (next_phase b h v ≢ 0) × (held b (h ++ w ∷ []) v ≡ held b h v)
+  pub as-before : (v : ℕ) → v ≢ w → next_phase b (h ++ w ∷ []) v ≢ 0 → (next_phase b h v ≢ 0) × (held b (h ++ w ∷ []) v ≡ held b h v)
   as-before v ne inside =
       let was : next_phase b h v ≢ 0 = λ e. inside (other-phase b h w v ne ∙ e) in
       (was, held-other b h v w ne was)
@@ -272,11 +272,11 @@ module _ (b : ℕ) (h : List ℕ) (w : ℕ) (r : Rounds b h) (start : next_phase
 
 -- the turn goes on with a round
 module _ (b : ℕ) (h : List ℕ) (w : ℕ) (r : Rounds b h) (inside : next_phase b h w ≢ 0) where
-  kept : next_phase b (h ++ w ∷ []) w ≢ 0 → held b (h ++ w ∷ []) w ≡ held b h w
+  pub kept : next_phase b (h ++ w ∷ []) w ≢ 0 → held b (h ++ w ∷ []) w ≡ held b h w
   kept on = held-own b h w on
 
   -- everybody who stands in a round stood in it before
-  stood : (v : ℕ) → next_phase b (h ++ w ∷ []) v ≢ 0 → (next_phase b h v ≢ 0) × (held b (h ++ w ∷ []) v ≡ held b h v)
+  pub stood : (v : ℕ) → next_phase b (h ++ w ∷ []) v ≢ 0 → (next_phase b h v ≢ 0) × (held b (h ++ w ∷ []) v ≡ held b h v)
   stood v on = ⊎_elim
       (λ (e : v ≡ w).
       let P : ℕ → Type 0 = λ y. (next_phase b h y ≢ 0) × (held b (h ++ w ∷ []) y ≡ held b h y) in
@@ -286,7 +286,7 @@ module _ (b : ℕ) (h : List ℕ) (w : ℕ) (r : Rounds b h) (inside : next_phas
       (was, held-other b h v w ne was))
       (cases_eq v w)
 
-  same-claims : claims b (h ++ w ∷ []) ≡ claims b h
+  pub same-claims : claims b (h ++ w ∷ []) ≡ claims b h
   same-claims = claims-inside b h w inside
 
   on-begun : (v : ℕ) → turns_of v (h ++ w ∷ []) ≤ claims b (h ++ w ∷ []) * (b + 3)

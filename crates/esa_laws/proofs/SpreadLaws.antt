@@ -17,7 +17,7 @@ use Rattle.esa_spec.specs.declared.event.Event.{Event}
 use Rattle.esa_spec.specs.declared.event.Event.TheVariants.{Claim, Read, Exchange, Write, Done, Idle}
 
 -- an event that is no exchange is passed by
-through-other : (k : ℕ) (e : Event) (es : List Event) → exchanged e ≡ None → through k (e ∷ es) ≡ e ∷ through k es
+pub through-other : (k : ℕ) (e : Event) (es : List Event) → exchanged e ≡ None → through k (e ∷ es) ≡ e ∷ through k es
 through-other zero (Claim j) es h = refl
 through-other (suc k) (Claim j) es h = refl
 through-other zero (Read j) es h = refl

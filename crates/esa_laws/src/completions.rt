@@ -1,6 +1,6 @@
 //! A completed list of turns comes to its end, and a list that is finished loses nothing by completion.
 
-ghost use Rattle.std.specs.Prelude.{◌≡◌, ℕ, ◌+◌, ◌*◌, ◌<◌, ◌≤◌, true, false, None, List, ◌++◌, length, take, All};
+ghost use Rattle.std.specs.Prelude.{◌≡◌, ℕ, ◌+◌, ◌*◌, ◌%◌, ◌<◌, ◌≤◌, true, false, None, List, ◌++◌, length, take, slice_index, All};
 ghost use Rattle.esa_params.specs.Sizes.{Sizes};
 ghost use Rattle.esa_spec.specs.Completion.{completed, full};
 ghost use Rattle.esa_spec.specs.Draws.{Draw};
@@ -41,4 +41,16 @@ pub fn finished_stays()
         → attempt_trace p d a (g ++ more) ≡ attempt_trace p d a g }
     ensures places { (p : Sizes) (d : Draw) (g more : List ℕ) → is_finished p d g ≡ true → failing p d (order p.b g) ≡ None
         → places p d (g ++ more) ≡ places p d g }
+{}
+
+/// The completion as it is found turn by turn: the turns that were handed in, and then those of all workers in a round.
+pub fn completion_is_found()
+    ensures full { (p : Sizes) (d : Draw) (turns : List ℕ) (m : ℕ) → m ≤ length (completed p turns)
+        → is_finished p d (take m (completed p turns)) ≡ true
+        → ((x : ℕ) → x < m → is_finished p d (take x (completed p turns)) ≡ false)
+        → full p d turns ≡ take m (completed p turns) }
+    ensures handed_in { (p : Sizes) (turns : List ℕ) (x : ℕ) → x < length turns → slice_index (completed p turns) x ≡ slice_index turns x }
+    ensures added { (p : Sizes) (turns : List ℕ) (y : ℕ) → y < p.b * (p.b + 3) * p.workers
+        → slice_index (completed p turns) (length turns + y) ≡ y % p.workers }
+    ensures count { (p : Sizes) (turns : List ℕ) → length (completed p turns) ≡ length turns + p.b * (p.b + 3) * p.workers }
 {}

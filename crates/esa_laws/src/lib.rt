@@ -4,8 +4,11 @@
 //! crate stands on the definitions alone, and takes no memory.
 #![tactic(auto)]
 
+pub mod attempts;
 pub mod completions;
+pub mod histories;
 pub mod lines;
+pub mod nonces;
 pub mod orders;
 pub mod permutations;
 pub mod queues;

@@ -1,9 +1,10 @@
 -- The accesses of a shuffle, in their order: a function of the sizes, the targets and the turns.
-use Rattle.std.specs.Prelude.{ℕ, zero, suc, ◌+◌, ◌*◌, Bool, true, false, if◌then◌else◌, Option, Some, None, unwrap_or, List, [], ◌∷◌, ◌++◌, map, filter_map}
+use Rattle.std.specs.Prelude.{ℕ, zero, suc, ◌+◌, ◌*◌, Bool, true, false, ◌&&◌, if◌then◌else◌, Option, Some, None, unwrap_or, List, [], ◌∷◌, ◌++◌, map, filter_map}
 use Rattle.esa_params.specs.Sizes.{Sizes, below}
 use Rattle.esa_params.specs.Slots.{at, access_of}
 use Rattle.esa_params.specs.declared.slot.Region.TheVariants.{Input, Mid, Tail, Output}
 use Rattle.esa_params.specs.declared.slot.Slot.{Slot}
+use Rattle.esa_params.specs.declared.slot.Op.{Op}
 use Rattle.esa_params.specs.declared.slot.Op.TheVariants.{Read as Reads, Write as Writes}
 use Rattle.esa_params.specs.declared.slot.Access.{Access}
 use Rattle.esa_spec.specs.Draws.{Draw}
@@ -87,6 +88,11 @@ attempt_trace p d a h = spread p d a h ++ rest p d a h (failing p d (order p.b h
 abbrev pub is_failed : Sizes → Draw → List ℕ → Bool
 is_failed p d h = if is_finished p d h then (if is_good (verdict p d h) then false else true) else false
 
+-- each of these attempts, from attempt a on, is finished and doesn't succeed
+abbrev pub all_failed : Sizes → (ℕ → Draw) → ℕ → List (List ℕ) → Bool
+all_failed p ds a [] = true
+all_failed p ds a (h ∷ hs) = is_failed p (ds a) h && all_failed p ds (a + 1) hs
+
 -- the accesses of the attempts from attempt a on, by the turns of each
 abbrev pub attempts : Sizes → (ℕ → Draw) → ℕ → List (List ℕ) → List Access
 attempts p ds a [] = []
@@ -117,3 +123,16 @@ scans p (Some a) = scan p a ++ scan p a
 -- all accesses of a run: those of the shuffle, and the two scans of its output
 abbrev pub trace : Sizes → (ℕ → Draw) → List (List ℕ) → List Access
 trace p ds hs = shuffle_trace p ds hs ++ scans p (good_attempt p ds 0 hs)
+
+-- an operation that writes leaves its nonce
+abbrev pub nonce_by : Op → ℕ → Option ℕ
+nonce_by Reads nonce = None
+nonce_by Writes nonce = Some nonce
+
+-- the nonce that an access writes
+abbrev pub written_nonce : Access → Option ℕ
+written_nonce access = nonce_by access.op access.nonce
+
+-- the nonces that are written, in turn
+abbrev pub written_nonces : List Access → List ℕ
+written_nonces accesses = filter_map written_nonce accesses
