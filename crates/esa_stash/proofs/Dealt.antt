@@ -3,8 +3,8 @@ use Rattle.std.proofs.Common.{◌≡◌, ◌≢◌, ℕ, zero, suc, ◌+◌, ◌
 use Rattle.std.proofs.lemmas.List.{length-take, length-append, length-set, length-map, take_all, drop_all, take-append-le, drop-append-le, set_at, append_assoc}
 use Rattle.std.proofs.lemmas.Bool.{cases_lt, cases_eq, eq-eqb, ne_eqb}
 use borrow.Rule.Slice.PartMut.{put_mid}
-use Rattle.esa_stash.specs.declared.item.Item.{Item}
-use Rattle.esa_stash.specs.Item.{dummy}
+use Rattle.esa_report.specs.declared.item.Item.{Item}
+use Rattle.esa_report.specs.Item.{dummy_item}
 use Rattle.std.proofs.lemmas.List.Sums.{sum_by-cons}
 use Rattle.esa_stash.specs.Arena.{Arena, queues_of, pushed, cells_in, items_in, IsShared}
 use Rattle.esa_stash.specs.Stash.{padded}
@@ -109,9 +109,9 @@ module _ (b c : ℕ) (line : ℕ → List Item) (target : ℕ) (item : Item) (ar
       let rest = c - length (before ++ item ∷ []) in
       let one : c - length before ≡ suc (c - length (before ++ item ∷ [])) = omega arith in
       ap (λ (l : List Item). set (padded c l) (get_or counts target 0) item) all
-      ∙ ap (λ (k : ℕ). set (before ++ replicate k dummy) (get_or counts target 0) item) one
-      ∙ set_at before dummy (replicate rest dummy) item (get_or counts target 0) is
-      ∙ sym (append_assoc before (item ∷ []) (replicate rest dummy))
+      ∙ ap (λ (k : ℕ). set (before ++ replicate k dummy_item) (get_or counts target 0) item) one
+      ∙ set_at before dummy_item (replicate rest dummy_item) item (get_or counts target 0) is
+      ∙ sym (append_assoc before (item ∷ []) (replicate rest dummy_item))
       ∙ ap (padded c) (sym all_longer)
 
   pub in_chunk : AreDealt b c (with_item line target item) arena (set chunks (target * c + get_or counts target 0) item) (set counts target (get_or counts target 0 + 1))

@@ -4,7 +4,6 @@ pub mod Drawing
 pub mod Lines
 pub mod Linking
 pub mod Partitions
-pub mod Queues
 pub mod Rising
 pub mod Rows
 pub mod TotalLemmas

@@ -6,8 +6,8 @@ use Rattle.std.proofs.lemmas.List.FromFn.{fill_by_all}
 use Rattle.std.proofs.lemmas.Bool.{cases_eq, cases_lt, eq-eqb, ne_eqb}
 use Rattle.esa_stash.specs.Sizes.{below}
 use Rattle.esa_stash.specs.Draws.{chosen}
-use Rattle.esa_stash.specs.declared.item.Item.{Item}
-use Rattle.esa_stash.specs.Item.{dummy}
+use Rattle.esa_report.specs.declared.item.Item.{Item}
+use Rattle.esa_report.specs.Item.{dummy_item}
 use Rattle.esa_stash.specs.Links.{occurrences}
 use Rattle.esa_stash.specs.Arena.{Arena, queues_of, items_in}
 use Rattle.esa_stash.specs.Dealing.{queue_of, line_after, left_of, with_item, IsDealt, AreDealt, arrivals}
@@ -82,14 +82,14 @@ queued_together arena b chains =
 
 -- one item more comes
 module _ (arena : Arena) (ts : List ℕ) (xs : List Item) (k : ℕ) (t : ℕ) (x : Item) (long : length xs ≡ length ts) (inside : k < length ts)
-  (t_is : t ≡ get_or ts k 0) (x_is : x ≡ get_or xs k dummy)
+  (t_is : t ≡ get_or ts k 0) (x_is : x ≡ get_or xs k dummy_item)
   where
   grown : (i : ℕ) → chosen i (take (k + 1) ts) (take (k + 1) xs) ≡ chosen i (take k ts) (take k xs) ++ cond (eqb t i) (x ∷ []) []
   grown i =
       let both : length (take k ts) ≡ length (take k xs) = length-take k ts ∙ ap (min k) (sym long) ∙ sym (length-take k xs) in
       ap₂ (λ (l : List ℕ) (m : List Item). chosen i l m)
       (take_more ts k 0 inside ∙ ap (λ (y : ℕ). take k ts ++ y ∷ []) (sym t_is))
-      (take_more xs k dummy (omega arith) ∙ ap (λ (y : Item). take k xs ++ y ∷ []) (sym x_is))
+      (take_more xs k dummy_item (omega arith) ∙ ap (λ (y : Item). take k xs ++ y ∷ []) (sym x_is))
       ∙ chosen-append i (take k ts) (t ∷ []) (take k xs) (x ∷ []) both
 
   pub line_grows : (i : ℕ) → with_item (line_after arena (take k ts) (take k xs)) t x i ≡ line_after arena (take (k + 1) ts) (take (k + 1) xs) i

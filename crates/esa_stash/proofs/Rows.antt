@@ -9,7 +9,7 @@ use Rattle.std.proofs.Math.Seq.{take-set-lt}
 use Rattle.std.proofs.Math.Nat.{suc-mul, zero-mul, mul-le-mul_right}
 use borrow.Rule.Slice.PartMut.{put_mid}
 use Rattle.esa_stash.specs.Sizes.{below}
-use Rattle.esa_stash.specs.declared.item.Item.{Item}
+use Rattle.esa_report.specs.declared.item.Item.{Item}
 use Rattle.esa_stash.specs.Dealing.{chunk_at}
 use Rattle.esa_stash.proofs.TotalLemmas.{range-more}
 

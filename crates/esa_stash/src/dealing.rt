@@ -5,10 +5,10 @@ ghost use Rattle.esa_stash.specs.Arena.{queues_of};
 ghost use Rattle.esa_stash.specs.Stash.{padded};
 ghost use Rattle.esa_stash.specs.Sizes.{below};
 ghost use Rattle.esa_stash.specs.Dealing.{ChangesQueue, AreDealt, queue_of, line_after, left_of, with_item};
-ghost use Rattle.esa_stash.specs.declared.item.Item.{Item as AnItem};
+ghost use Rattle.esa_report.specs.declared.item.Item.{Item as AnItem};
 
 use crate::cells::Cells;
-use crate::item::Item;
+use esa_report::Item;
 
 /// Deals out each target's queue and the new items behind it: up to `c` items of this line are the target's chunk,
 /// padded and counted, and the rest is its queue.

@@ -7,7 +7,7 @@ ghost use Rattle.esa_stash.specs.Since.{IsSince, last_chunks, last_counts, total
 
 use crate::cells::Cells;
 use crate::dealing;
-use crate::item::Item;
+use esa_report::Item;
 use crate::totals;
 use std::alloc::{AllocError, Global};
 use std::marker::Model;
