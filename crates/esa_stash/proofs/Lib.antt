@@ -2,6 +2,7 @@ pub mod Arenas
 pub mod Dealt
 pub mod Drawing
 pub mod Lines
+pub mod Exchanging
 pub mod Linking
 pub mod Partitions
 pub mod Rising

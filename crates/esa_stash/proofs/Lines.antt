@@ -36,7 +36,7 @@ length-chosen i (t ∷ ts) (x ∷ xs) long = count (eqb t i) (length-chosen i ts
     count false rest = omega arith
 
 -- sums over the same numbers
-sum_by-same : (f g : ℕ → ℕ) (n : ℕ) → ((i : ℕ) → i < n → f i ≡ g i) → sum_by f (below n) ≡ sum_by g (below n)
+pub sum_by-same : (f g : ℕ → ℕ) (n : ℕ) → ((i : ℕ) → i < n → f i ≡ g i) → sum_by f (below n) ≡ sum_by g (below n)
 sum_by-same f g zero each = refl
 sum_by-same f g (suc n) each =
     let more : suc n ≡ n + 1 = omega arith in
@@ -44,7 +44,7 @@ sum_by-same f g (suc n) each =
     let last = each n (omega arith) in
     ap (λ (k : ℕ). sum_by f (below k)) more ∙ sum_by-below f n ∙ omega arith ∙ sym (sum_by-below g n) ∙ ap (λ (k : ℕ). sum_by g (below k)) (sym more)
 
-sum_by-least : (f g : ℕ → ℕ) (n : ℕ) → ((i : ℕ) → f i ≤ g i) → sum_by f (below n) ≤ sum_by g (below n)
+pub sum_by-least : (f g : ℕ → ℕ) (n : ℕ) → ((i : ℕ) → f i ≤ g i) → sum_by f (below n) ≤ sum_by g (below n)
 sum_by-least f g zero each = omega arith
 sum_by-least f g (suc n) each =
     let more : suc n ≡ n + 1 = omega arith in

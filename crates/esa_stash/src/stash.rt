@@ -106,10 +106,11 @@ impl Stash {
         ensures chunks_unchanged { OnErr result (chunks.new ≡ chunks.old) }
         ensures counts_unchanged { OnErr result (counts.new ≡ counts.old) }
     {
+        let room = self.cells.room();
         let arriving = self.arriving.as_mut_slice();
         totals::count_targets(targets, arriving);
         let total = totals::total_after(&self.cells, self.targets, self.chunk, arriving);
-        if total > u64::from(self.cells.room()) {
+        if total > u64::from(room) {
             return Err(Overflow { total });
         }
         dealing::deal(&mut self.cells, self.chunk, targets, items, chunks, counts);
