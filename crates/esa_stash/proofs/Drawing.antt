@@ -20,28 +20,28 @@ length-padded n items fits =
 pub padded-more : (n : ℕ) (line : List Item) → padded (n + 1) (take (n + 1) line) ≡ padded n (take n line) ++ unwrap_or (slice_get (drop n line) 0) dummy_item ∷ []
 padded-more n line = elim (cases_lt n (length line)) [
   | inl more ↦
-    let grown = take_more line n dummy_item more in
-    let here : slice_get (drop n line) 0 ≡ Some (get_or line n dummy_item) = ap (λ (l : List Item). slice_get l 0) (drop_more line n dummy_item more) in
-    let long = length-take n line in
-    let longer = length-take (n + 1) line in
-    let none : n + 1 - length (take (n + 1) line) ≡ 0 = omega arith in
-    let before : n - length (take n line) ≡ 0 = omega arith in
-    ap (λ (k : ℕ). take (n + 1) line ++ replicate k dummy_item) none
-    ∙ append-nil (take (n + 1) line)
-    ∙ grown
-    ∙ ap (λ (l : List Item). l ++ get_or line n dummy_item ∷ []) (sym (ap (λ (k : ℕ). take n line ++ replicate k dummy_item) before ∙ append-nil (take n line)))
-    ∙ ap (λ (o : Option Item). padded n (take n line) ++ unwrap_or o dummy_item ∷ []) (sym here)
+      let grown = take_more line n dummy_item more in
+      let here : slice_get (drop n line) 0 ≡ Some (get_or line n dummy_item) = ap (λ (l : List Item). slice_get l 0) (drop_more line n dummy_item more) in
+      let long = length-take n line in
+      let longer = length-take (n + 1) line in
+      let none : n + 1 - length (take (n + 1) line) ≡ 0 = omega arith in
+      let before : n - length (take n line) ≡ 0 = omega arith in
+      ap (λ (k : ℕ). take (n + 1) line ++ replicate k dummy_item) none
+      ∙ append-nil (take (n + 1) line)
+      ∙ grown
+      ∙ ap (λ (l : List Item). l ++ get_or line n dummy_item ∷ []) (sym (ap (λ (k : ℕ). take n line ++ replicate k dummy_item) before ∙ append-nil (take n line)))
+      ∙ ap (λ (o : Option Item). padded n (take n line) ++ unwrap_or o dummy_item ∷ []) (sym here)
   | inr past ↦
-    let whole = take_all n line past in
-    let whole_more = take_all (n + 1) line (omega arith) in
-    let none : slice_get (drop n line) 0 ≡ None = ap (λ (l : List Item). slice_get l 0) (drop_all n line past) in
-    let one : n + 1 - length line ≡ n - length line + 1 = omega arith in
-    ap (padded (n + 1)) whole_more
-    ∙ ap (λ (k : ℕ). line ++ replicate k dummy_item) one
-    ∙ ap (λ (l : List Item). line ++ l) (sym (replicate_more (n - length line) dummy_item))
-    ∙ sym (append_assoc line (replicate (n - length line) dummy_item) (dummy_item ∷ []))
-    ∙ ap (λ (l : List Item). padded n l ++ dummy_item ∷ []) (sym whole)
-    ∙ ap (λ (o : Option Item). padded n (take n line) ++ unwrap_or o dummy_item ∷ []) (sym none)
+      let whole = take_all n line past in
+      let whole_more = take_all (n + 1) line (omega arith) in
+      let none : slice_get (drop n line) 0 ≡ None = ap (λ (l : List Item). slice_get l 0) (drop_all n line past) in
+      let one : n + 1 - length line ≡ n - length line + 1 = omega arith in
+      ap (padded (n + 1)) whole_more
+      ∙ ap (λ (k : ℕ). line ++ replicate k dummy_item) one
+      ∙ ap (λ (l : List Item). line ++ l) (sym (replicate_more (n - length line) dummy_item))
+      ∙ sym (append_assoc line (replicate (n - length line) dummy_item) (dummy_item ∷ []))
+      ∙ ap (λ (l : List Item). padded n l ++ dummy_item ∷ []) (sym whole)
+      ∙ ap (λ (o : Option Item). padded n (take n line) ++ unwrap_or o dummy_item ∷ []) (sym none)
 ]
 
 length_padded_take : (n : ℕ) (line : List Item) → length (padded n (take n line)) ≡ n

@@ -1,24 +1,23 @@
 -- What an exchange leaves, by its lines and by all that was handed over before.
-use Rattle.std.proofs.Common.{◌≡◌, ℕ, zero, suc, ◌+◌, ◌-◌, ◌*◌, ◌<◌, ◌≤◌, List, [], ◌∷◌, ◌++◌, length, get_or, map, take, drop, replicate, flat_map, sum_by, eqb, Bool, cond, refl, sym, ap, ap₂, subst, ◌∙◌, arith, inl, inr}
+use Rattle.std.proofs.Common.{◌≡◌, ℕ, zero, suc, ◌+◌, ◌*◌, ◌<◌, ◌≤◌, List, [], ◌∷◌, ◌++◌, length, map, take, drop, replicate, flat_map, sum_by, eqb, Bool, cond, refl, sym, ap, ap₂, ◌∙◌, arith, inl, inr}
 use Rattle.std.specs.List.{range_with_len}
-use Rattle.std.proofs.lemmas.List.{length-map, length-drop, length-append, length-take, length-replicate, map_push, append-nil, get_or-replicate, drop_all}
+use Rattle.std.proofs.lemmas.List.{length-map, length-drop, length-append, length-replicate, map_push, get_or-replicate, drop_all}
 use Rattle.std.proofs.lemmas.List.Folds.{fold-map}
 use Rattle.std.proofs.lemmas.List.Concat.{flat_map-append}
-use Rattle.std.proofs.lemmas.List.FromFn.{get_or-map-range_with_len, fill_by_all, length-map-range_with_len, get_or-range_with_len}
+use Rattle.std.proofs.lemmas.List.FromFn.{get_or-map-range_with_len, fill_by_all, length-map-range_with_len}
 use Rattle.std.proofs.lemmas.Bool.{cases_eq, eq-eqb, ne_eqb}
 use Rattle.esa_laws.proofs.QueueLaws.{queue-push, leaving-push, waiting-push, length-queue}
 use Rattle.esa_stash.specs.Sizes.{below}
 use Rattle.esa_stash.specs.Draws.{chosen}
 use Rattle.esa_stash.specs.Queue.{queue, leaving, waiting, departed}
 use Rattle.esa_report.specs.declared.item.Item.{Item}
-use Rattle.esa_stash.specs.Links.{occurrences}
 use Rattle.esa_stash.specs.Arena.{Arena, empty_arena, queues_of, items_in, chain_at, IsShared}
-use Rattle.esa_stash.specs.Stash.{Held, Handed, empty_stash, targets_of, queue_at, coming, line, chunk, rest, padded, padded_chunk, chunks, count, counts, exchanged, total}
+use Rattle.esa_stash.specs.Stash.{Held, Handed, empty_stash, targets_of, coming, line, chunk, rest, padded, padded_chunk, chunks, count, counts, exchanged, total}
 use Rattle.esa_stash.specs.Since.{batches, IsSince, last_chunk, last_chunks, last_count, last_counts, backlog, total_backlog}
 use Rattle.esa_stash.specs.Dealing.{queue_of, line_after, left_of, left_after, arrivals, AreDealt}
 use Rattle.esa_stash.proofs.Partitions.{occurrences-cons}
 use Rattle.esa_stash.proofs.Rising.{occurrences-range, map-replicate}
-use Rattle.esa_stash.proofs.TotalLemmas.{sum_by-below, range-more, arrivals-le}
+use Rattle.esa_stash.proofs.TotalLemmas.{sum_by-below, range-more}
 use Rattle.esa_stash.proofs.Lines.{sum_by-same, sum_by-least, queues_are, queued_together, length-chosen}
 use Rattle.esa_stash.proofs.Drawing.{queue_of_chain}
 use Rattle.esa_stash.proofs.Dealt.{free_cells}
@@ -152,6 +151,18 @@ seen arena c = record { c = c; s = arena.room; queues = queues_of arena }
 pub seen_empty : (b c s : ℕ) → seen (empty_arena b s) c ≡ empty_stash b c s
 seen_empty b c s = ap (λ (qs : List (List Item)). record { c = c; s = s; queues = qs }) (map-replicate items_in b [])
 
+abbrev nil : List Item
+nil = []
+
+none_queued : (a n : ℕ) → map (λ (i : ℕ). nil) (range_with_len a n) ≡ replicate n []
+none_queued a zero = refl
+none_queued a (suc n) = ap (λ (qs : List (List Item)). [] ∷ qs) (none_queued (a + 1) n)
+
+pub seen_cleared : (arena : Arena) (c b : ℕ) → length arena.chains ≡ b → ((i : ℕ) → i < b → queue_of arena i ≡ []) → seen arena c ≡ empty_stash b c arena.room
+seen_cleared arena c b chains cleared =
+    ap (λ (qs : List (List Item)). record { c = c; s = arena.room; queues = qs })
+    (queues_are arena ∙ ap (λ (n : ℕ). map (queue_of arena) (below n)) chains ∙ map-same (queue_of arena) (λ (i : ℕ). nil) b cleared ∙ none_queued 0 b)
+
 -- ---- by an arena
 module _ (arena : Arena) (c b : ℕ) (ts : List ℕ) (xs : List Item) (chains : length arena.chains ≡ b) (each : length xs ≡ length ts) where
   abbrev before : Held
@@ -186,30 +197,30 @@ module _ (arena : Arena) (c b : ℕ) (ts : List ℕ) (xs : List Item) (chains : 
       let came = arrivals-together ts b in
       let cells = free_cells arena shared in
       let least = sum_by-least (left_of c (line_after arena ts xs)) (λ i. length (queue_of arena i) + arrivals ts i) b (λ i.
-        let shorter = length-drop c (line_after arena ts xs i) in
-        let long = length-append (queue_of arena i) (chosen i ts xs) in
-        let came = length-chosen i ts xs each in
-        omega arith)
+      let shorter = length-drop c (line_after arena ts xs i) in
+      let long = length-append (queue_of arena i) (chosen i ts xs) in
+      let came = length-chosen i ts xs each in
+      omega arith)
       in
       omega arith
 
   -- what is dealt out is what an exchange leaves
   module _ (new : Arena) (chunks' : List Item) (counts' : List ℕ) (long : length chunks' ≡ b * c) (count_each : length counts' ≡ b) (chains_after : length new.chains ≡ b)
-    (dealt : AreDealt b c (line_after arena ts xs) new chunks' counts')
+      (dealt : AreDealt b c (line_after arena ts xs) new chunks' counts')
     where
-    pub queues_left : queues_of new ≡ map (rest before (ts, xs)) (targets_of before)
-    queues_left =
-        queues_are new
-        ∙ ap (λ (n : ℕ). map (queue_of new) (below n)) chains_after
-        ∙ map-same (queue_of new) (rest before (ts, xs)) b (λ i inside. (dealt i inside).queue)
-        ∙ ap (λ (n : ℕ). map (rest before (ts, xs)) (below n)) (sym many)
+      pub queues_left : queues_of new ≡ map (rest before (ts, xs)) (targets_of before)
+      queues_left =
+          queues_are new
+          ∙ ap (λ (n : ℕ). map (queue_of new) (below n)) chains_after
+          ∙ map-same (queue_of new) (rest before (ts, xs)) b (λ i inside. (dealt i inside).queue)
+          ∙ ap (λ (n : ℕ). map (rest before (ts, xs)) (below n)) (sym many)
 
-    pub chunks_left : chunks' ≡ chunks before (ts, xs)
-    chunks_left =
-        joined_chunks c b (padded_chunk before (ts, xs)) chunks' long (λ i inside. (dealt i inside).chunk)
-        ∙ ap (λ (n : ℕ). flat_map (padded_chunk before (ts, xs)) (below n)) (sym many)
+      pub chunks_left : chunks' ≡ chunks before (ts, xs)
+      chunks_left =
+          joined_chunks c b (padded_chunk before (ts, xs)) chunks' long (λ i inside. (dealt i inside).chunk)
+          ∙ ap (λ (n : ℕ). flat_map (padded_chunk before (ts, xs)) (below n)) (sym many)
 
-    pub counts_left : counts' ≡ counts before (ts, xs)
-    counts_left =
-        fill_by_all (count before (ts, xs)) counts' b 0 count_each (λ i inside. (dealt i inside).count)
-        ∙ ap (λ (n : ℕ). map (count before (ts, xs)) (below n)) (sym many)
+      pub counts_left : counts' ≡ counts before (ts, xs)
+      counts_left =
+          fill_by_all (count before (ts, xs)) counts' b 0 count_each (λ i inside. (dealt i inside).count)
+          ∙ ap (λ (n : ℕ). map (count before (ts, xs)) (below n)) (sym many)

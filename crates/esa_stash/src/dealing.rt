@@ -68,7 +68,7 @@ fn deal_item(
     requires count { slice_index counts.old target ≤ c }
     requires room { slice_index counts.old target ≡ c → sum_by length (queues_of cells.old) < cells.old.room }
     ensures dealt { (line : ℕ → List AnItem) → AreDealt (length counts.old) c line cells.old chunks.old counts.old
-      → AreDealt (length counts.old) c (with_item line target item) cells.new chunks.new counts.new }
+        → AreDealt (length counts.old) c (with_item line target item) cells.new chunks.new counts.new }
     ensures chains { length cells.new.chains ≡ length cells.old.chains }
     ensures cells { cells.new.room ≡ cells.old.room }
 {
@@ -102,7 +102,8 @@ pub fn empty(cells: &mut Cells, chain: u32)
     requires { chain < length cells.old.chains }
     ensures { ChangesQueue cells.old cells.new chain [] }
 {
-    for _ in 0..cells.length(chain) {
+    let held = cells.length(chain);
+    for _taken in 0..held {
         cells.pop(chain);
     }
 }

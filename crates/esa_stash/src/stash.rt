@@ -6,9 +6,8 @@ ghost use Rattle.esa_stash.specs.Stash.{Handed, Held, empty_stash, queue_at, pad
 ghost use Rattle.esa_stash.specs.Since.{IsSince, last_chunks, last_counts, total_backlog};
 
 use crate::cells::Cells;
-use crate::dealing;
+use crate::{dealing, totals};
 use esa_report::Item;
-use crate::totals;
 use std::alloc::{AllocError, Global};
 use std::marker::Model;
 
@@ -132,7 +131,9 @@ impl Stash {
     {
         let held = self.cells.length(target);
         if held as usize > out.len() {
-            return Err(Left { held: u64::from(held) });
+            return Err(Left {
+                held: u64::from(held),
+            });
         }
         dealing::draw(&mut self.cells, target, out);
         Ok(held)

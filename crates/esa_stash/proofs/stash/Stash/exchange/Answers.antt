@@ -1,12 +1,12 @@
-use Rattle.std.proofs.Common.{rules, ◌≡◌, ℕ, ◌+◌, ◌*◌, ◌≤◌, ◌<◌, ◌^◌, length, get_or, map, sum_by, All, List, [], ◌∷◌, ◌++◌, ap, ap₂, sym, subst, refl, ◌∙◌, arith, true, false}
+use Rattle.std.proofs.Common.{◌≡◌, ℕ, ◌*◌, ◌≤◌, length, get_or, map, sum_by, List, [], ◌∷◌, ◌++◌, ap, ap₂, sym, subst, refl, ◌∙◌, arith}
 use Rattle.std.proofs.lemmas.Bool.{false≢true}
 use Rattle.std.proofs.lemmas.List.{length-map}
 use Rattle.std.proofs.lemmas.List.FromFn.{get_or-map-range_with_len, length-map-range_with_len}
 use Rattle.esa_stash.specs.Sizes.{below}
 use Rattle.esa_report.specs.declared.item.Item.{Item}
-use Rattle.esa_stash.specs.Arena.{Arena, queues_of, items_in}
+use Rattle.esa_stash.specs.Arena.{items_in}
 use Rattle.esa_stash.specs.Stash.{Held, Handed, total, exchanged, chunks, counts}
-use Rattle.esa_stash.specs.Since.{IsSince, total_backlog, last_chunks, last_counts}
+use Rattle.esa_stash.specs.Since.{IsSince, total_backlog}
 use Rattle.esa_stash.specs.Dealing.{left_of, left_after, line_after, arrivals, AreDealt}
 use Rattle.esa_stash.proofs.TotalLemmas.{arrivals-le}
 use Rattle.esa_stash.proofs.Exchanging.{seen, IsSince-more, chunks_are, counts_are, total_is, total_of_lines, total_of_lengths, total_bounded, queues_left, chunks_left, counts_left}

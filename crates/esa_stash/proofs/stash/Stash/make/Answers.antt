@@ -1,6 +1,6 @@
 use Rattle.std.proofs.Common.{◌≡◌, [], ap, ◌∙◌, subst, sym}
-use Rattle.esa_stash.specs.Arena.{Arena, queues_of}
-use Rattle.esa_stash.specs.Stash.{Held, empty_stash}
+use Rattle.esa_stash.specs.Arena.{Arena}
+use Rattle.esa_stash.specs.Stash.{empty_stash}
 use Rattle.esa_stash.specs.Since.{IsSince}
 use Rattle.esa_stash.proofs.Exchanging.{IsSince-empty, seen_empty, seen}
 use Rattle.esa_stash.proofs.stash.Stash.make.Goals as goal
