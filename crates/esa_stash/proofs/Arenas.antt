@@ -3,8 +3,8 @@ use Rattle.std.proofs.Common.{◌≡◌, ◌≢◌, ℕ, suc, ◌+◌, ◌<◌, 
 use Rattle.std.specs.List.{slice_get, range_with_len}
 use Rattle.std.proofs.lemmas.List.{map-append, map-set, get_or-map, take-map, drop-map, length-map, length-drop}
 use Rattle.std.proofs.lemmas.List.Sums.{sum_by-cons, get_or-le-sum_by}
-use Rattle.esa_stash.specs.declared.item.Item.{Item}
-use Rattle.esa_stash.specs.Item.{dummy}
+use Rattle.esa_report.specs.declared.item.Item.{Item}
+use Rattle.esa_report.specs.Item.{dummy_item}
 use Rattle.esa_stash.specs.Links.{Lists, list_at, occurrences, IsPartition, shifted}
 use Rattle.esa_stash.specs.Arena.{Arena, cells_in, chain_at, IsShared, pushed, popped, empty_arena}
 use Rattle.esa_stash.specs.Inside.{held_in, all_held, arena_of, AreCells}
@@ -51,7 +51,7 @@ all_held-set items cell item [] none = refl
 all_held-set items cell item (c ∷ l) none =
     let other : c ≢ cell = apart_from cell c l none in
     ap₂ (λ (h : ℕ × Item) (hs : List (ℕ × Item)). h ∷ hs)
-    (ap (λ (x : Item). (c, x)) (get_or-set_other items cell c item dummy other))
+    (ap (λ (x : Item). (c, x)) (get_or-set_other items cell c item dummy_item other))
     (all_held-set items cell item l (rest_apart cell c l none))
 
 all_chains-set : (items : List Item) (cell : ℕ) (item : Item) (lists : List (List ℕ)) → sum_by (occurrences cell) lists ≡ 0 → map (all_held (set items cell item)) lists ≡ map (all_held items) lists
@@ -71,7 +71,7 @@ pushed_chains items cell item lists i inside in_room none =
     let old : all_held after (list_at lists i) ≡ get_or (map (all_held items) lists) i [] =
     all_held-set items cell item (list_at lists i) (omega arith) ∙ sym (get_or-map (all_held items) lists i [] [] inside)
     in
-    let new = ap (λ (x : Item). (cell, x) ∷ []) (get_or-set_same items cell item dummy in_room) in
+    let new = ap (λ (x : Item). (cell, x) ∷ []) (get_or-set_same items cell item dummy_item in_room) in
     map-set (all_held after) lists i (list_at lists i ++ cell ∷ [])
     ∙ ap₂ (λ (chains : List (List (ℕ × Item))) (chain : List (ℕ × Item)). set chains i chain)
     (all_chains-set items cell item lists none)

@@ -4,55 +4,55 @@ use Rattle.std.specs.List.{slice_get}
 use Rattle.std.specs.Option.{option_map}
 use Rattle.std.proofs.lemmas.List.{append-nil, append_assoc, map-append, map-set, length-set, get_or-map, drop-map, length-map, length-append, length-replicate, length-take, drop_more, set_at, take_more, take_all, drop_all, drop-drop, replicate_more, set-set, set-get_or}
 use Rattle.std.proofs.lemmas.Bool.{cases_lt}
-use Rattle.esa_stash.specs.declared.item.Item.{Item}
-use Rattle.esa_stash.specs.Item.{dummy}
+use Rattle.esa_report.specs.declared.item.Item.{Item}
+use Rattle.esa_report.specs.Item.{dummy_item}
 use Rattle.esa_stash.specs.Arena.{Arena, items_in, chain_at, queues_of, popped, pushed}
 use Rattle.esa_stash.specs.Stash.{padded}
 use Rattle.esa_stash.specs.Dealing.{queue_of, ChangesQueue}
 
 pub length-padded : (n : ℕ) (items : List Item) → length items ≤ n → length (padded n items) ≡ n
 length-padded n items fits =
-    let both = length-append items (replicate (n - length items) dummy) in
-    let pads = length-replicate (n - length items) dummy in
+    let both = length-append items (replicate (n - length items) dummy_item) in
+    let pads = length-replicate (n - length items) dummy_item in
     omega arith
 
 -- what stands at the next place: the next item of the line, or a dummy
-pub padded-more : (n : ℕ) (line : List Item) → padded (n + 1) (take (n + 1) line) ≡ padded n (take n line) ++ unwrap_or (slice_get (drop n line) 0) dummy ∷ []
+pub padded-more : (n : ℕ) (line : List Item) → padded (n + 1) (take (n + 1) line) ≡ padded n (take n line) ++ unwrap_or (slice_get (drop n line) 0) dummy_item ∷ []
 padded-more n line = elim (cases_lt n (length line)) [
   | inl more ↦
-    let grown = take_more line n dummy more in
-    let here : slice_get (drop n line) 0 ≡ Some (get_or line n dummy) = ap (λ (l : List Item). slice_get l 0) (drop_more line n dummy more) in
-    let long = length-take n line in
-    let longer = length-take (n + 1) line in
-    let none : n + 1 - length (take (n + 1) line) ≡ 0 = omega arith in
-    let before : n - length (take n line) ≡ 0 = omega arith in
-    ap (λ (k : ℕ). take (n + 1) line ++ replicate k dummy) none
-    ∙ append-nil (take (n + 1) line)
-    ∙ grown
-    ∙ ap (λ (l : List Item). l ++ get_or line n dummy ∷ []) (sym (ap (λ (k : ℕ). take n line ++ replicate k dummy) before ∙ append-nil (take n line)))
-    ∙ ap (λ (o : Option Item). padded n (take n line) ++ unwrap_or o dummy ∷ []) (sym here)
+      let grown = take_more line n dummy_item more in
+      let here : slice_get (drop n line) 0 ≡ Some (get_or line n dummy_item) = ap (λ (l : List Item). slice_get l 0) (drop_more line n dummy_item more) in
+      let long = length-take n line in
+      let longer = length-take (n + 1) line in
+      let none : n + 1 - length (take (n + 1) line) ≡ 0 = omega arith in
+      let before : n - length (take n line) ≡ 0 = omega arith in
+      ap (λ (k : ℕ). take (n + 1) line ++ replicate k dummy_item) none
+      ∙ append-nil (take (n + 1) line)
+      ∙ grown
+      ∙ ap (λ (l : List Item). l ++ get_or line n dummy_item ∷ []) (sym (ap (λ (k : ℕ). take n line ++ replicate k dummy_item) before ∙ append-nil (take n line)))
+      ∙ ap (λ (o : Option Item). padded n (take n line) ++ unwrap_or o dummy_item ∷ []) (sym here)
   | inr past ↦
-    let whole = take_all n line past in
-    let whole_more = take_all (n + 1) line (omega arith) in
-    let none : slice_get (drop n line) 0 ≡ None = ap (λ (l : List Item). slice_get l 0) (drop_all n line past) in
-    let one : n + 1 - length line ≡ n - length line + 1 = omega arith in
-    ap (padded (n + 1)) whole_more
-    ∙ ap (λ (k : ℕ). line ++ replicate k dummy) one
-    ∙ ap (λ (l : List Item). line ++ l) (sym (replicate_more (n - length line) dummy))
-    ∙ sym (append_assoc line (replicate (n - length line) dummy) (dummy ∷ []))
-    ∙ ap (λ (l : List Item). padded n l ++ dummy ∷ []) (sym whole)
-    ∙ ap (λ (o : Option Item). padded n (take n line) ++ unwrap_or o dummy ∷ []) (sym none)
+      let whole = take_all n line past in
+      let whole_more = take_all (n + 1) line (omega arith) in
+      let none : slice_get (drop n line) 0 ≡ None = ap (λ (l : List Item). slice_get l 0) (drop_all n line past) in
+      let one : n + 1 - length line ≡ n - length line + 1 = omega arith in
+      ap (padded (n + 1)) whole_more
+      ∙ ap (λ (k : ℕ). line ++ replicate k dummy_item) one
+      ∙ ap (λ (l : List Item). line ++ l) (sym (replicate_more (n - length line) dummy_item))
+      ∙ sym (append_assoc line (replicate (n - length line) dummy_item) (dummy_item ∷ []))
+      ∙ ap (λ (l : List Item). padded n l ++ dummy_item ∷ []) (sym whole)
+      ∙ ap (λ (o : Option Item). padded n (take n line) ++ unwrap_or o dummy_item ∷ []) (sym none)
 ]
 
 length_padded_take : (n : ℕ) (line : List Item) → length (padded n (take n line)) ≡ n
 length_padded_take n line = length-padded n (take n line) (let long = length-take n line in omega arith)
 
 -- one more place is written
-pub written : (n : ℕ) (line out : List Item) → n < length out → set (padded n (take n line) ++ drop n out) n (unwrap_or (slice_get (drop n line) 0) dummy) ≡ padded (n + 1) (take (n + 1) line) ++ drop (n + 1) out
+pub written : (n : ℕ) (line out : List Item) → n < length out → set (padded n (take n line) ++ drop n out) n (unwrap_or (slice_get (drop n line) 0) dummy_item) ≡ padded (n + 1) (take (n + 1) line) ++ drop (n + 1) out
 written n line out inside =
-    let next = unwrap_or (slice_get (drop n line) 0) dummy in
-    ap (λ (l : List Item). set (padded n (take n line) ++ l) n next) (drop_more out n dummy inside)
-    ∙ set_at (padded n (take n line)) (get_or out n dummy) (drop (n + 1) out) next n (length_padded_take n line)
+    let next = unwrap_or (slice_get (drop n line) 0) dummy_item in
+    ap (λ (l : List Item). set (padded n (take n line) ++ l) n next) (drop_more out n dummy_item inside)
+    ∙ set_at (padded n (take n line)) (get_or out n dummy_item) (drop (n + 1) out) next n (length_padded_take n line)
     ∙ sym (append_assoc (padded n (take n line)) (next ∷ []) (drop (n + 1) out))
     ∙ ap (λ (l : List Item). l ++ drop (n + 1) out) (sym (padded-more n line))
 

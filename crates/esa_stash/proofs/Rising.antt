@@ -32,7 +32,7 @@ occurrences-below x k (suc j) below =
     let rest = occurrences-below x (k + 1) j (omega arith) in
     grind arith
 
-occurrences-range : (x k j : ℕ) → k ≤ x → occurrences x (range_with_len k j) ≡ (if nat_lt x (k + j) then 1 else 0)
+pub occurrences-range : (x k j : ℕ) → k ≤ x → occurrences x (range_with_len k j) ≡ (if nat_lt x (k + j) then 1 else 0)
 occurrences-range x k zero up = grind arith
 occurrences-range x k (suc j) up =
     let head = occurrences-cons x k (range_with_len (k + 1) j) in

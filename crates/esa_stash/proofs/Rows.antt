@@ -1,7 +1,6 @@
 -- Chunks of c items, one after another, and a write to one of them.
-use Rattle.std.proofs.Common.{◌≡◌, ◌≢◌, ℕ, zero, suc, ◌+◌, ◌-◌, ◌*◌, ◌<◌, ◌≤◌, List, [], ◌∷◌, ◌++◌, length, get_or, set, map, take, drop, flat_map, refl, sym, ap, ap₂, ◌∙◌, arith, inl, inr}
-use Rattle.std.specs.List.{range_with_len}
-use Rattle.std.proofs.lemmas.List.{length-take, length-drop, length-append, take-set-le, drop-set-lt, drop-set-add, take-append-drop, take_all, drop-take, take-take, append-nil}
+use Rattle.std.proofs.Common.{◌≡◌, ◌≢◌, ℕ, zero, suc, ◌+◌, ◌-◌, ◌*◌, ◌<◌, ◌≤◌, List, [], ◌∷◌, ◌++◌, length, set, take, drop, flat_map, sym, ap, ap₂, ◌∙◌, arith, inl, inr}
+use Rattle.std.proofs.lemmas.List.{length-take, length-drop, take-set-le, drop-set-lt, drop-set-add, take-append-drop, take_all, drop-take, take-take, append-nil}
 use Rattle.std.proofs.lemmas.List.Concat.{flat_map-append}
 use Rattle.std.proofs.lemmas.Slice.{between_is, between-put_mid, take-put_mid_below}
 use Rattle.std.proofs.lemmas.Bool.{cases_lt}
@@ -9,7 +8,7 @@ use Rattle.std.proofs.Math.Seq.{take-set-lt}
 use Rattle.std.proofs.Math.Nat.{suc-mul, zero-mul, mul-le-mul_right}
 use borrow.Rule.Slice.PartMut.{put_mid}
 use Rattle.esa_stash.specs.Sizes.{below}
-use Rattle.esa_stash.specs.declared.item.Item.{Item}
+use Rattle.esa_report.specs.declared.item.Item.{Item}
 use Rattle.esa_stash.specs.Dealing.{chunk_at}
 use Rattle.esa_stash.proofs.TotalLemmas.{range-more}
 
@@ -60,18 +59,18 @@ chunk_at-set c chunks i n item inside =
 pub chunk_at-set_other : (c : ℕ) (chunks : List Item) (i j n : ℕ) (item : Item) → n < c → j ≢ i → chunk_at c (set chunks (i * c + n) item) j ≡ chunk_at c chunks j
 chunk_at-set_other c chunks i j n item inside other = elim (cases_lt j i) [
   | inl less ↦
-    let before = chunk_before c j i less in
-    let from_start : i * c + n ≡ j * c + (i * c + n - j * c) = omega arith in
-    chunk_is c (set chunks (i * c + n) item) j
-    ∙ ap (λ (k : ℕ). take c (drop (j * c) (set chunks k item))) from_start
-    ∙ ap (take c) (drop-set-add (j * c) chunks (i * c + n - j * c) item)
-    ∙ take-set-le c (drop (j * c) chunks) (i * c + n - j * c) item (omega arith)
-    ∙ sym (chunk_is c chunks j)
+      let before = chunk_before c j i less in
+      let from_start : i * c + n ≡ j * c + (i * c + n - j * c) = omega arith in
+      chunk_is c (set chunks (i * c + n) item) j
+      ∙ ap (λ (k : ℕ). take c (drop (j * c) (set chunks k item))) from_start
+      ∙ ap (take c) (drop-set-add (j * c) chunks (i * c + n - j * c) item)
+      ∙ take-set-le c (drop (j * c) chunks) (i * c + n - j * c) item (omega arith)
+      ∙ sym (chunk_is c chunks j)
   | inr more ↦
-    let after = chunk_before c i j (let apart = other in omega arith) in
-    chunk_is c (set chunks (i * c + n) item) j
-    ∙ ap (take c) (drop-set-lt (j * c) chunks (i * c + n) item (omega arith))
-    ∙ sym (chunk_is c chunks j)
+      let after = chunk_before c i j (let apart = other in omega arith) in
+      chunk_is c (set chunks (i * c + n) item) j
+      ∙ ap (take c) (drop-set-lt (j * c) chunks (i * c + n) item (omega arith))
+      ∙ sym (chunk_is c chunks j)
 ]
 
 -- the chunks, joined

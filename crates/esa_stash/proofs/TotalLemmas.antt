@@ -1,7 +1,7 @@
 -- Sums over the numbers below a limit, and how often each target comes.
-use Rattle.std.proofs.Common.{◌≡◌, ◌≢◌, ℕ, zero, suc, ◌+◌, ◌-◌, ◌<◌, ◌≤◌, List, [], ◌∷◌, ◌++◌, length, get_or, set, map, take, drop, replicate, sum_by, eqb, Bool, cond, refl, sym, ap, ap₂, ◌∙◌, arith, inl, inr, get_or-set_other, get_or-set_same}
-use Rattle.std.proofs.lemmas.List.{take_more, take_at, length-set}
-use Rattle.std.proofs.lemmas.List.Sums.{sum_by_push, sum_by-cons, count_by-le-length}
+use Rattle.std.proofs.Common.{◌≡◌, ℕ, zero, suc, ◌+◌, ◌-◌, ◌<◌, ◌≤◌, List, [], ◌∷◌, ◌++◌, length, get_or, set, map, take, replicate, sum_by, eqb, Bool, cond, refl, sym, ap, ◌∙◌, arith, inl, inr, get_or-set_other, get_or-set_same}
+use Rattle.std.proofs.lemmas.List.{take_more, length-set}
+use Rattle.std.proofs.lemmas.List.Sums.{sum_by_push, count_by-le-length}
 use Rattle.std.proofs.lemmas.List.FromFn.{get_or-map-range_with_len, length-map-range_with_len, fill_by_all}
 use Rattle.std.proofs.lemmas.Bool.{cases_eq, eq-eqb, ne_eqb}
 use Rattle.std.specs.List.{range_with_len}
@@ -69,19 +69,19 @@ module _ (targets : List ℕ) (k n read : ℕ) (inside : k < length targets) (ta
       let before = map (arrivals (take k targets)) (below n) in
       let long : length before ≡ n = length-map-range_with_len (arrivals (take k targets)) 0 n in
       fill_by_all (arrivals (take (k + 1) targets)) (set before target (read + 1)) n 0 (length-set before target (read + 1) ∙ long) (λ i i_in.
-        let more = arrivals-more targets k i inside in
-        let old = get_or-map-range_with_len (arrivals (take k targets)) 0 n i i 0 i_in (omega arith) in
-        let here = get_or-set_same before target (read + 1) 0 in
-        let there = get_or-set_other before target i (read + 1) 0 in
-        let is = count_read in
-        elim (cases_eq i target) [
-          | inl same ↦
+      let more = arrivals-more targets k i inside in
+      let old = get_or-map-range_with_len (arrivals (take k targets)) 0 n i i 0 i_in (omega arith) in
+      let here = get_or-set_same before target (read + 1) 0 in
+      let there = get_or-set_other before target i (read + 1) 0 in
+      let is = count_read in
+      elim (cases_eq i target) [
+        | inl same ↦
             let moved = ap (arrivals (take k targets)) same in
             let one = ap (λ (b : Bool). cond {A = ℕ} b 1 0) (eq-eqb target i (sym same)) in
             let after : read + 1 ≡ arrivals (take (k + 1) targets) i = omega arith in
             ap (λ (j : ℕ). get_or (set before target (read + 1)) j 0) same ∙ here (omega arith) ∙ after
-          | inr other ↦
+        | inr other ↦
             let none = ap (λ (b : Bool). cond {A = ℕ} b 1 0) (ne_eqb target i (λ e. other (sym e))) in
             let after : get_or before i 0 ≡ arrivals (take (k + 1) targets) i = omega arith in
             there other ∙ after
-        ])
+      ])

@@ -1,7 +1,7 @@
 -- An arena: cells by number, each free or in one of some chains, and an item in each cell of a chain.
 use Rattle.std.specs.Prelude.{ℕ, List, [], ◌∷◌, ◌++◌, map, take, drop, replicate, slice_index, slice_index_or, slice_set}
 use Rattle.std.specs.List.{range_with_len}
-use Rattle.esa_stash.specs.declared.item.Item.{Item}
+use Rattle.esa_report.specs.declared.item.Item.{Item}
 use Rattle.esa_stash.specs.Links.{IsPartition}
 
 -- how many cells there are, the free ones, and the cells of each chain in order, each with its item

@@ -1,6 +1,6 @@
 -- An exchange at work: what stands in the queues, the chunks and the counts once each target's line is dealt out.
 use Rattle.std.specs.Prelude.{◌≡◌, ℕ, ◌+◌, ◌-◌, ◌*◌, ◌<◌, ◌==◌, List, [], ◌∷◌, ◌++◌, length, take, drop, if◌then◌else◌, slice_index, slice_index_or, slice_set, slice_range}
-use Rattle.esa_stash.specs.declared.item.Item.{Item}
+use Rattle.esa_report.specs.declared.item.Item.{Item}
 use Rattle.esa_spec.specs.Draws.{chosen}
 use Rattle.esa_stash.specs.Links.{occurrences}
 use Rattle.esa_stash.specs.Arena.{Arena, queues_of, chain_at}

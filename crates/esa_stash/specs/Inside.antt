@@ -1,13 +1,13 @@
 -- The arena that an array of items and lists of cells stand for.
 use Rattle.std.specs.Prelude.{◌≡◌, ℕ, ◌<◌, List, length, map, drop, slice_index_or}
-use Rattle.esa_stash.specs.declared.item.Item.{Item}
-use Rattle.esa_stash.specs.Item.{dummy}
+use Rattle.esa_report.specs.declared.item.Item.{Item}
+use Rattle.esa_report.specs.Item.{dummy_item}
 use Rattle.esa_stash.specs.Links.{Lists, list_at}
 use Rattle.esa_stash.specs.Arena.{Arena}
 
 -- a cell, and the item in it
 abbrev pub held_in : List Item → ℕ → ℕ × Item
-held_in items cell = (cell, slice_index_or items cell dummy)
+held_in items cell = (cell, slice_index_or items cell dummy_item)
 
 abbrev pub all_held : List Item → List ℕ → List (ℕ × Item)
 all_held items cells = map (held_in items) cells

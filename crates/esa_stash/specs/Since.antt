@@ -1,7 +1,7 @@
 -- A stash by all that was handed to it since it was empty, exchange after exchange.
 use Rattle.std.specs.Prelude.{◌≡◌, ℕ, suc, ◌<◌, List, [], ◌∷◌, ◌++◌, length, map, flat_map, sum_by}
 use Rattle.esa_spec.specs.Queue.{waiting, leaving, queue}
-use Rattle.esa_stash.specs.declared.item.Item.{Item}
+use Rattle.esa_report.specs.declared.item.Item.{Item}
 use Rattle.esa_stash.specs.Stash.{Held, Handed, coming, queue_at, targets_of, padded}
 
 -- what came for a target, as a batch for each exchange

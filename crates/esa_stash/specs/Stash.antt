@@ -5,8 +5,8 @@
 use Rattle.std.specs.Prelude.{ℕ, ◌-◌, List, [], ◌++◌, length, map, take, drop, replicate, flat_map, sum_by, slice_index_or}
 use Rattle.esa_params.specs.Sizes.{below}
 use Rattle.esa_spec.specs.Draws.{chosen}
-use Rattle.esa_stash.specs.declared.item.Item.{Item}
-use Rattle.esa_stash.specs.Item.{dummy}
+use Rattle.esa_report.specs.declared.item.Item.{Item}
+use Rattle.esa_report.specs.Item.{dummy_item}
 
 -- the items of a chunk, the items that are held at most, and the queue of each target
 pub record Held : Type 0 where
@@ -28,7 +28,7 @@ empty_stash b c s = record { c = c; s = s; queues = replicate b [] }
 
 -- n places: the items, then dummies
 abbrev pub padded : ℕ → List Item → List Item
-padded n items = items ++ replicate (n - length items) dummy
+padded n items = items ++ replicate (n - length items) dummy_item
 
 -- what is handed to an exchange: a target for each item, and the items
 abbrev pub Handed : Type 0

@@ -4,8 +4,8 @@ ghost use Rattle.std.specs.Prelude.{◌≡◌, ◌<◌, ◌↔◌, [], length, r
 ghost use Rattle.std.specs.Bool.{OnTrue, OnFalse};
 ghost use Rattle.esa_stash.specs.Arena.{IsShared, chain_at, empty_arena, pushed, popped};
 
-use crate::item::Item;
 use crate::links::Links;
+use esa_report::Item;
 use std::alloc::{AllocError, Global};
 use std::marker::Model;
 

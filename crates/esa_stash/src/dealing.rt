@@ -5,10 +5,10 @@ ghost use Rattle.esa_stash.specs.Arena.{queues_of};
 ghost use Rattle.esa_stash.specs.Stash.{padded};
 ghost use Rattle.esa_stash.specs.Sizes.{below};
 ghost use Rattle.esa_stash.specs.Dealing.{ChangesQueue, AreDealt, queue_of, line_after, left_of, with_item};
-ghost use Rattle.esa_stash.specs.declared.item.Item.{Item as AnItem};
+ghost use Rattle.esa_report.specs.declared.item.Item.{Item as AnItem};
 
 use crate::cells::Cells;
-use crate::item::Item;
+use esa_report::Item;
 
 /// Deals out each target's queue and the new items behind it: up to `c` items of this line are the target's chunk,
 /// padded and counted, and the rest is its queue.
@@ -68,7 +68,7 @@ fn deal_item(
     requires count { slice_index counts.old target ≤ c }
     requires room { slice_index counts.old target ≡ c → sum_by length (queues_of cells.old) < cells.old.room }
     ensures dealt { (line : ℕ → List AnItem) → AreDealt (length counts.old) c line cells.old chunks.old counts.old
-      → AreDealt (length counts.old) c (with_item line target item) cells.new chunks.new counts.new }
+        → AreDealt (length counts.old) c (with_item line target item) cells.new chunks.new counts.new }
     ensures chains { length cells.new.chains ≡ length cells.old.chains }
     ensures cells { cells.new.room ≡ cells.old.room }
 {
@@ -102,7 +102,8 @@ pub fn empty(cells: &mut Cells, chain: u32)
     requires { chain < length cells.old.chains }
     ensures { ChangesQueue cells.old cells.new chain [] }
 {
-    for _ in 0..cells.length(chain) {
+    let held = cells.length(chain);
+    for _taken in 0..held {
         cells.pop(chain);
     }
 }

@@ -3,11 +3,9 @@
 
 mod cells;
 mod dealing;
-mod item;
 mod links;
 mod stash;
 mod totals;
 
 pub use cells::Cells;
-pub use item::{Item, Kind};
 pub use stash::{Left, Overflow, Stash};

@@ -6,9 +6,8 @@ ghost use Rattle.esa_stash.specs.Stash.{Handed, Held, empty_stash, queue_at, pad
 ghost use Rattle.esa_stash.specs.Since.{IsSince, last_chunks, last_counts, total_backlog};
 
 use crate::cells::Cells;
-use crate::dealing;
-use crate::item::Item;
-use crate::totals;
+use crate::{dealing, totals};
+use esa_report::Item;
 use std::alloc::{AllocError, Global};
 use std::marker::Model;
 
@@ -106,10 +105,11 @@ impl Stash {
         ensures chunks_unchanged { OnErr result (chunks.new ≡ chunks.old) }
         ensures counts_unchanged { OnErr result (counts.new ≡ counts.old) }
     {
+        let room = self.cells.room();
         let arriving = self.arriving.as_mut_slice();
         totals::count_targets(targets, arriving);
         let total = totals::total_after(&self.cells, self.targets, self.chunk, arriving);
-        if total > u64::from(self.cells.room()) {
+        if total > u64::from(room) {
             return Err(Overflow { total });
         }
         dealing::deal(&mut self.cells, self.chunk, targets, items, chunks, counts);
@@ -131,7 +131,9 @@ impl Stash {
     {
         let held = self.cells.length(target);
         if held as usize > out.len() {
-            return Err(Left { held: u64::from(held) });
+            return Err(Left {
+                held: u64::from(held),
+            });
         }
         dealing::draw(&mut self.cells, target, out);
         Ok(held)

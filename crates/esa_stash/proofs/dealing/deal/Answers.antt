@@ -1,8 +1,8 @@
-use Rattle.std.proofs.Common.{rules, ◌≡◌, ◌≤◌, ◌<◌, ◌+◌, ℕ, List, [], ◌∷◌, length, get_or, take, ap, ap₂, sym, subst, ◌∙◌, arith}
+use Rattle.std.proofs.Common.{rules, ◌≡◌, ◌<◌, ℕ, List, length, get_or, take, sym, subst, ◌∙◌, arith}
 use Rattle.std.proofs.lemmas.List.{length-take, length_push, take_all}
 use Rattle.std.proofs.lemmas.Slice.Zip.{zip_turn, zip_end}
-use Rattle.esa_stash.specs.declared.item.Item.{Item}
-use Rattle.esa_stash.specs.Item.{dummy}
+use Rattle.esa_report.specs.declared.item.Item.{Item}
+use Rattle.esa_report.specs.Item.{dummy_item}
 use Rattle.esa_stash.specs.Dealing.{AreDealt, line_after, with_item}
 use Rattle.esa_stash.proofs.Lines.{all_grow, room_left}
 use Rattle.esa_stash.proofs.dealing.deal.Goals as goal
@@ -12,12 +12,12 @@ use Rattle.esa_stash.proofs.dealing.deal.Goals.{In-Some}
 record Turn (c : In-Some) : Type 0 where
   inside : length c.loop-target.yielded < length c.args.targets.now
   target : c.in-Some.target.now ≡ get_or c.args.targets.now (length c.loop-target.yielded) 0
-  item : c.in-Some.item.now ≡ get_or c.args.items.now (length c.loop-target.yielded) dummy
+  item : c.in-Some.item.now ≡ get_or c.args.items.now (length c.loop-target.yielded) dummy_item
 
 turn : (c : In-Some) → Turn c
 turn c =
     let at = zip_turn c.args.targets.now c.args.items.now c.loop-target.yielded c.into_iter-target-iterator.result c.loop-target.target-iterator c.next.new.self c.next.result (search rules) (search rules) c.loop-target.yielded_by (c.in-Some.target, c.in-Some.item) c.in-Some.is c.next.ensures.steps in
-    record { inside = at.0; target = at.2 0; item = at.3 dummy }
+    record { inside = at.0; target = at.2 0; item = at.3 dummy_item }
 
 below_all : (c : In-Some) → c.in-Some.target.now < length c.args.counts.now
 below_all c = let now = turn c in subst (λ (t : ℕ). t < length c.args.counts.now) (sym now.target) (c.requires.below (length c.loop-target.yielded) 0 now.inside)

@@ -1,4 +1,4 @@
-use Rattle.std.proofs.Common.{◌≡◌, ℕ, ◌≤◌, ◌<◌, length, take}
+use Rattle.std.proofs.Common.{◌≡◌, length, take}
 use Rattle.esa_stash.specs.Dealing.{AreDealt, line_after}
 use Rattle.esa_stash.proofs.dealing.deal.Given as goal
 

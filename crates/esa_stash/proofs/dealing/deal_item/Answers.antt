@@ -1,7 +1,6 @@
-use Rattle.std.proofs.Common.{rules, ◌≡◌, ◌+◌, length, ◌<◌, arith, subst, sym, refl, get_or}
+use Rattle.std.proofs.Common.{◌≡◌, length, ◌<◌, arith, subst, sym, refl, get_or}
 use Rattle.std.proofs.lemmas.Bool.{false≢true}
-use Rattle.esa_stash.specs.declared.item.Item.{Item}
-use Rattle.esa_stash.specs.Arena.{Arena, queues_of, pushed}
+use Rattle.esa_stash.specs.Arena.{Arena}
 use Rattle.esa_stash.specs.Dealing.{AreDealt, with_item}
 use Rattle.esa_stash.proofs.Dealt.{in_chunk, in_queue, free_cells}
 use Rattle.esa_stash.proofs.dealing.deal_item.Goals as goal

@@ -1,7 +1,6 @@
-use Rattle.std.proofs.Common.{rules, ◌≡◌, ℕ, ◌*◌, List, length, take, drop, set, ap, subst, sym, refl, ◌∙◌, arith}
-use borrow.Rule.Slice.PartMut.{put_mid}
+use Rattle.std.proofs.Common.{◌≡◌, ℕ, ◌*◌, length, take, drop, ap, subst, refl, ◌∙◌, arith}
 use Rattle.esa_stash.specs.Stash.{padded}
-use Rattle.esa_stash.specs.Dealing.{queue_of, ChangesQueue, AreDealt}
+use Rattle.esa_stash.specs.Dealing.{queue_of, ChangesQueue}
 use Rattle.esa_stash.proofs.Rows.{length-chunk_at}
 use Rattle.esa_stash.proofs.Drawing.{chains_stay}
 use Rattle.esa_stash.proofs.Dealt.{AreDealt-more, later-more}

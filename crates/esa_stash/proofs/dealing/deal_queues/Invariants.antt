@@ -1,4 +1,4 @@
-use Rattle.std.proofs.Common.{◌≡◌, ℕ, ◌≤◌, ◌<◌, ◌*◌, length}
+use Rattle.std.proofs.Common.{◌≡◌, ℕ, ◌≤◌, length}
 use Rattle.esa_stash.specs.Dealing.{AreDealt, queue_of}
 use Rattle.esa_stash.proofs.dealing.deal_queues.Given as goal
 

@@ -1,4 +1,4 @@
-use Rattle.std.proofs.Common.{rules, ◌≡◌, ◌≤◌, ◌<◌, ◌+◌, length, get_or, take, map, sym, ap, ◌∙◌, arith, List, ℕ, set}
+use Rattle.std.proofs.Common.{rules, ◌≡◌, ◌<◌, ◌+◌, length, get_or, take, map, ap, ◌∙◌, arith, List, ℕ, set}
 use Rattle.std.proofs.lemmas.List.{length-take}
 use Rattle.esa_stash.specs.Sizes.{below}
 use Rattle.esa_stash.specs.Dealing.{arrivals}

@@ -1,5 +1,4 @@
-use Rattle.std.proofs.Common.{rules, ◌≡◌, ◌≤◌, ◌<◌, ◌+◌, length, get_or, sum_by, sym, ◌∙◌, arith}
-use Rattle.esa_stash.specs.Sizes.{below}
+use Rattle.std.proofs.Common.{rules, ◌≡◌, ◌<◌, ◌+◌, arith}
 use Rattle.esa_stash.specs.Dealing.{left_after}
 use Rattle.esa_stash.proofs.TotalLemmas.{sum_by-below, sum_by-below-within}
 use Rattle.esa_stash.proofs.totals.total_after.Goals as goal

@@ -3,8 +3,8 @@ use Rattle.std.specs.List.{slice_get}
 use Rattle.std.specs.Option.{option_map}
 use Rattle.std.proofs.lemmas.List.{get_or_default}
 use Rattle.std.proofs.lemmas.Bool.{true≢false}
-use Rattle.esa_stash.specs.declared.item.Item.{Item}
-use Rattle.esa_stash.specs.Item.{dummy}
+use Rattle.esa_report.specs.declared.item.Item.{Item}
+use Rattle.esa_report.specs.Item.{dummy_item}
 use Rattle.esa_stash.specs.Links.{Lists}
 use Rattle.esa_stash.specs.Arena.{Arena, popped, chain_at}
 use Rattle.esa_stash.specs.Inside.{arena_of}
@@ -43,7 +43,7 @@ returns-clause-first c =
     let fields = c.self.inside in
     let inside = chain_inside (goal.at.returns-clause-first c).After-shift in
     let in_items = cell_inside (goal.at.returns-clause-first c).In_ok-cell inside in
-    let read = c.index.ensures ∙ get_or_default fields.items.items c.in_ok-cell.cell c.index.result.now dummy in_items in
+    let read = c.index.ensures ∙ get_or_default fields.items.items c.in_ok-cell.cell c.index.result.now dummy_item in_items in
     let held = first_held fields.links fields.items.items c.args.chain c.in_ok-cell.cell inside c.in_ok-cell.ensures.cell in
     let item_of : Option (ℕ × Item) → Option Item = option_map (λ (held : ℕ × Item). held.1) in
     ap (λ (item : Item). Some item) read
