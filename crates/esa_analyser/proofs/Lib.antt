@@ -1,3 +1,6 @@
 pub mod KeyOrder
+pub mod KeyLaws
+pub mod KeyRuns
+pub mod Filled
 pub mod RowReading
 pub mod DbLaws

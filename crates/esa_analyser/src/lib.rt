@@ -2,6 +2,9 @@
 #![tactic(auto)]
 
 mod db;
+mod key;
+mod keys;
+mod put;
 mod refused;
 mod row;
 
