@@ -3,4 +3,5 @@ pub mod KeyLaws
 pub mod KeyRuns
 pub mod Filled
 pub mod RowReading
+pub mod RowWriting
 pub mod DbLaws
