@@ -19,7 +19,7 @@ use Rattle.esa_lists.proofs.FilesLaws.{names_apart}
 use Rattle.esa_lists.proofs.TallyLaws.{tally-permutation}
 use Rattle.esa_lists.proofs.RunsLaws.{runs-nil, runs-cons, runs-run, entries-tally_sorted}
 use Rattle.esa_analyser.specs.Database.{rows_of}
-use Rattle.esa_analyser.specs.SortKey.{sort_key, key_value, IsSortKey}
+use Rattle.esa_analyser.specs.SortKey.{sort_key, key_value, IsSortKey, row_of}
 use Rattle.esa_analyser.proofs.KeyOrder.{padded, order-padded, padded-append, less_number}
 
 abbrev pub by_bytes : List ℕ → List ℕ → Ordering
@@ -61,10 +61,6 @@ IsSorted-values size keys are sorted k d low below =
     ∙ ap is_lt order
     ∙ sorted k [] low inside
 
--- a run of keys as a row
-abbrev pub row_of : List ℕ × ℕ → List ℕ × ℕ
-row_of run = (key_value run.0, run.1)
-
 record RowsOfRuns (size : ℕ) (rows : List (List ℕ × ℕ)) (key_runs : List (List ℕ × ℕ)) : Type 0 where
   rows_are : rows ≡ map row_of key_runs
   keys_are : All (λ run. IsSortKey size run.0) key_runs
@@ -104,7 +100,7 @@ rows_of-permutation xs ys moved = ap finite.entries (tally-permutation nat_list_
 nat_ties : (x y : ℕ) → nat_eq x y ≡ eq_by_cmp nat_cmp x y
 nat_ties x y = grind (arith, nat_tests)
 
-bytes_tie : (x y : List ℕ) → eq_by_cmp by_bytes x y ≡ bytes_eq y x
+pub bytes_tie : (x y : List ℕ) → eq_by_cmp by_bytes x y ≡ bytes_eq y x
 bytes_tie x y = sym (lists_ties nat_cmp nat_ties x y) ∙ nat_list_eq_equiv.symm x y
 
 -- a run at the front, by what a walk found

@@ -5,3 +5,4 @@ pub mod Filled
 pub mod RowReading
 pub mod RowWriting
 pub mod DbLaws
+pub mod Counting

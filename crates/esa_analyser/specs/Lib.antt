@@ -4,5 +4,8 @@ pub mod Rows
 pub mod Reading
 pub mod Opened
 pub mod SortKey
+pub mod Kept
+pub mod Counted
+pub mod Inside
 pub use Rattle.esa_params.specs.Form
 pub use Rattle.esa_header.specs.Version

@@ -1,5 +1,8 @@
 -- What a list of inner envelopes says.
-use Rattle.std.specs.Prelude.{◌≡◌, ℕ, ◌-◌, Bool, false, List, length, filter_map, Option, Some, None, bytes_eq}
+use Rattle.std.specs.Prelude.{◌≡◌, ℕ, ◌-◌, Bool, false, List, length, filter_map, Option, bytes_eq, unwrap_or}
+use Rattle.std.specs.Ordering.{nat_cmp}
+use Rattle.std.specs.Cmp.Lexicographic.{slice_cmp}
+use Rattle.std.specs.FinMap as finite
 use Rattle.std.specs.Option.{option_and_then, option_map_or}
 use Rattle.esa_envelope.specs.declared.keys.Keys.{Keys}
 use Rattle.esa_envelope.specs.declared.label.Label.TheVariants.{Inner}
@@ -15,3 +18,11 @@ reported keys envelope = option_and_then value_in (opened keys Inner envelope)
 abbrev pub database_of : Keys → List (List ℕ) → Database
 database_of keys envelopes =
     record { rows = rows_of (filter_map (reported keys) envelopes); unopened = length envelopes - length (filter_map (reported keys) envelopes) }
+
+-- an envelope gives a value
+abbrev pub gives : Keys → List ℕ → List ℕ → Bool
+gives keys value envelope = option_map_or (λ reported_value. bytes_eq reported_value value) (reported keys envelope) false
+
+-- the count of a value in a database: 0 where it has no row
+abbrev pub count_in : Database → List ℕ → ℕ
+count_in database value = unwrap_or (finite.find (slice_cmp nat_cmp) value database.rows) 0

@@ -13,3 +13,7 @@ key_value key = take (slice_index key (length key - 1)) key
 pub record IsSortKey (size : ℕ) (key : List ℕ) : Type 0 where
   pub fits : length (key_value key) + 2 ≤ size
   pub spelled : key ≡ sort_key size (key_value key)
+
+-- a run of equal keys, as a row of their value
+abbrev pub row_of : List ℕ × ℕ → List ℕ × ℕ
+row_of run = (key_value run.0, run.1)

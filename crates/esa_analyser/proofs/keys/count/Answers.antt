@@ -3,8 +3,8 @@ use Rattle.std.proofs.lemmas.List.{length-map}
 use Rattle.std.proofs.lemmas.List.Sorted.{IsPermutation-map, All-permutation}
 use Rattle.esa_lists.specs.Tally.{runs}
 use Rattle.esa_analyser.specs.Database.{rows_of}
-use Rattle.esa_analyser.specs.SortKey.{key_value, IsSortKey}
-use Rattle.esa_analyser.proofs.KeyRuns.{by_bytes, row_of, rows_of-keys, rows_of-permutation}
+use Rattle.esa_analyser.specs.SortKey.{key_value, IsSortKey, row_of}
+use Rattle.esa_analyser.proofs.KeyRuns.{by_bytes, rows_of-keys, rows_of-permutation}
 use Rattle.esa_analyser.proofs.keys.count.Goals as goal
 
 pub returns-clause-rows : goal.returns-clause-rows
