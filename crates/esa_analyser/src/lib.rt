@@ -1,9 +1,15 @@
 //! Counts opened reports into a database, and reads, writes and prints databases.
 #![tactic(auto)]
 
+mod analysis;
 mod db;
+mod kept;
+mod key;
+mod keys;
+mod put;
 mod refused;
 mod row;
 
+pub use analysis::Analysis;
 pub use db::{Db, read_db};
 pub use refused::DbRefused;
