@@ -1,11 +1,8 @@
 -- What is known once all passes are back in one seat.
-use Rattle.std.proofs.Common.{◌≡◌, ◌≢◌, ℕ, zero, suc, ◌+◌, ◌*◌, ◌<◌, ◌≤◌, ◌⊎◌, true, false, List, [], ◌∷◌, ◌++◌, length, get_or, sum_by, All, Contains, Option, Some, None, IfSome, refl, sym, ap, ◌∙◌, subst, inl, inr, ⊎_elim, true≢false, arith, length-append}
-use Rattle.std.proofs.lemmas.List.Elements.{All-weaker, All-contains, Contains-append_left, Contains-append_right}
+use Rattle.std.proofs.Common.{◌≡◌, ◌≢◌, ℕ, ◌<◌, ◌≤◌, List, length, All, Option, Some, IfSome, refl, sym, ap, ◌∙◌, subst, ⊎_elim, true≢false, arith}
+use Rattle.std.proofs.lemmas.List.Elements.{All-weaker, All-contains}
 use mathlib.Core.List.{IsPrefix}
-use mathlib.Core.Option.{none, some, some-injective}
-use mathlib.Core.Option as maybe
-use mathlib.Core.Logic.{dite}
-use native.Mathlib.Decide.{ℕ_discrete}
+use mathlib.Core.Option.{some, some-injective}
 use lib.ListN.{get_elem?}
 use Rattle.atomic_table.specs.Table.{State, Final, Seen}
 use Rattle.esa_turnstile.specs.declared.view.About.{About}
@@ -15,8 +12,8 @@ use Rattle.esa_turnstile.specs.declared.view.Stage.TheVariants.{Outside}
 use Rattle.esa_turnstile.specs.declared.view.View.{View}
 use Rattle.esa_turnstile.specs.declared.pass.Pass.{Pass}
 use Rattle.esa_turnstile.specs.Entries.{times}
-use Rattle.esa_turnstile.specs.Views.{held, is_inside, members_in, joined}
-use Rattle.esa_turnstile.specs.Lock.{IsCounted, IsEarlier, Fits, IsHome, IsAway, Kept}
+use Rattle.esa_turnstile.specs.Views.{is_inside, members_in}
+use Rattle.esa_turnstile.specs.Lock.{IsCounted, IsEarlier, IsHome, IsAway, Kept}
 use Rattle.esa_turnstile.specs.Passes.{IsNewPass, member_of}
 use Rattle.esa_turnstile.specs.Closing.{Knows, IsSettled}
 use Rattle.esa_turnstile.proofs.Totals.{two-le-sum}

@@ -1,19 +1,16 @@
 -- A turnstile as it is made, and its passes as they are given out.
-use Rattle.std.proofs.Common.{◌≡◌, ◌≢◌, ℕ, zero, suc, ◌+◌, ◌-◌, ◌*◌, ◌^◌, ◌<◌, ◌≤◌, Bool, true, false, true≢false, cond, eqb, List, [], ◌∷◌, ◌++◌, length, take, drop, sum_by, count_by, All, Option, Some, refl, sym, ap, ◌∙◌, subst, inl, mul_comm, mul-suc, mul-zero, mul-one, zero-add, add-zero, eq-eqb, ne_eqb, zero-le, arith}
+use Rattle.std.proofs.Common.{◌≡◌, ℕ, zero, suc, ◌+◌, ◌-◌, ◌*◌, ◌^◌, ◌<◌, ◌≤◌, Bool, true, false, true≢false, cond, eqb, List, [], ◌∷◌, length, take, drop, sum_by, count_by, All, Option, Some, refl, sym, ap, ◌∙◌, subst, inl, mul_comm, mul-suc, mul-one, zero-add, eq-eqb, ne_eqb, zero-le, arith}
 use Rattle.std.proofs.lemmas.List.Sums.{sum_by-cons}
 use Rattle.std.proofs.lemmas.List.Elements.{All-nil, All-cons, All-head, All-tail}
-use mathlib.Core.List.{IsPrefix}
-use mathlib.Core.Option.{none, some, some-injective, some-ne-none}
+use mathlib.Core.Option.{some, some-injective, some-ne-none}
 use native.Mathlib.Decide.{ℕ_discrete}
 use lib.ListN.{get_elem?}
 use Rattle.atomic_table.specs.Table.{State, opening, Splits}
 use Rattle.esa_turnstile.specs.declared.view.About.{About}
 use Rattle.esa_turnstile.specs.declared.view.Member.{Member}
-use Rattle.esa_turnstile.specs.declared.view.Stage.TheVariants.{Outside}
 use Rattle.esa_turnstile.specs.declared.view.View.{View}
-use Rattle.esa_turnstile.specs.Entries.{times}
-use Rattle.esa_turnstile.specs.Views.{held, held_in, is_inside, added, bears, bearers, one, fresh_from, dealing, dealt, rest_of, one_of}
-use Rattle.esa_turnstile.specs.Lock.{IsCounted, IsEarlier, Fits, IsHome, IsAway, Kept}
+use Rattle.esa_turnstile.specs.Views.{held_in, is_inside, added, bears, bearers, one, fresh_from, dealing, dealt, rest_of, one_of}
+use Rattle.esa_turnstile.specs.Lock.{IsCounted, IsEarlier, Fits, Kept}
 use Rattle.esa_turnstile.proofs.Reseated.{splits}
 
 fresh-length : (k n : ℕ) → length (fresh_from k n) ≡ n

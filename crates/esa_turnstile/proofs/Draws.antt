@@ -1,5 +1,5 @@
 -- The step that draws a ticket.
-use Rattle.std.proofs.Common.{◌≡◌, ◌≢◌, ℕ, zero, suc, ◌+◌, ◌-◌, ◌*◌, ◌%◌, ◌^◌, ◌<◌, ◌≤◌, List, [], ◌∷◌, length, get_or, set, sum_by, Option, refl, sym, ap, ◌∙◌, subst, mod-eq_of_lt, arith}
+use Rattle.std.proofs.Common.{◌≡◌, ℕ, ◌+◌, ◌%◌, ◌^◌, ◌<◌, ◌≤◌, List, [], ◌∷◌, length, get_or, set, sum_by, Option, refl, ap, ◌∙◌, mod-eq_of_lt, arith}
 use mathlib.Core.Option.{some, none}
 use lib.ListN.{get_elem?}
 use Rattle.atomic_table.specs.Table.{State, Me, step, keeps, Allows}
@@ -7,7 +7,7 @@ use Rattle.esa_turnstile.specs.declared.view.About.{About}
 use Rattle.esa_turnstile.specs.declared.view.Stage.{Stage}
 use Rattle.esa_turnstile.specs.declared.view.Stage.TheVariants.{Outside, Waiting, Inside}
 use Rattle.esa_turnstile.specs.declared.view.View.{View}
-use Rattle.esa_turnstile.specs.Views.{held, ticket, is_inside, added, left_in, held_in, with_ticket}
+use Rattle.esa_turnstile.specs.Views.{held, is_inside, left_in, with_ticket}
 use Rattle.esa_turnstile.specs.Lock.{InStage, Fits, Kept}
 use Rattle.esa_turnstile.specs.Steps.{Draws}
 use Rattle.esa_turnstile.proofs.Totals.{at-le-sum}

@@ -1,12 +1,12 @@
 -- How often each number stands in a list of entries.
-use Rattle.std.proofs.Common.{◌≡◌, ℕ, zero, suc, ◌+◌, ◌*◌, ◌<◌, ◌≤◌, Bool, true, false, cond, eqb, List, [], ◌∷◌, ◌++◌, length, get_or, take, drop, All, refl, sym, ap, ◌∙◌, subst, arith}
+use Rattle.std.proofs.Common.{◌≡◌, ℕ, zero, suc, ◌+◌, ◌<◌, cond, eqb, List, [], ◌∷◌, ◌++◌, length, get_or, take, drop, All, refl, sym, ap, ◌∙◌, subst, arith}
 use Rattle.std.proofs.lemmas.List.{take_at}
 use Rattle.std.proofs.lemmas.List.Sums.{sum_by-cons}
 use Rattle.std.proofs.lemmas.List.Elements.{All-head, All-tail}
 use Rattle.esa_turnstile.specs.declared.pass.Pass.{Pass}
 use Rattle.esa_turnstile.specs.declared.turnstile.Turnstile.{Turnstile}
 use Rattle.esa_turnstile.specs.Entries.{times}
-use Rattle.esa_turnstile.specs.Passes.{IsPassOf, IsOutside, IsNewPass, number_of, added_of}
+use Rattle.esa_turnstile.specs.Passes.{IsPassOf, IsNewPass, number_of, added_of}
 use Rattle.esa_turnstile.specs.Rounds.{Goes}
 
 some-pass : {T : Type 0} (ps : List (Pass T)) → 0 < length ps → Pass T

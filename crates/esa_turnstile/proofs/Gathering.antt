@@ -1,8 +1,7 @@
 -- Passes that are put into one seat, one after another from the last.
-use Rattle.std.proofs.Common.{◌≡◌, ℕ, ◌+◌, ◌<◌, List, [], ◌∷◌, ◌++◌, length, All, Contains, refl, sym, ap, ◌∙◌, subst, append_assoc, append-nil, length-append, arith}
+use Rattle.std.proofs.Common.{◌≡◌, List, [], ◌∷◌, ◌++◌, length, All, Contains, refl, sym, ap, ◌∙◌, subst, append_assoc, append-nil, length-append, arith}
 use Rattle.std.proofs.lemmas.List.Elements.{All-nil, All-cons, All-weaker, Contains-append_left, Contains-append_right}
 use Rattle.esa_turnstile.specs.declared.view.Member.{Member}
-use Rattle.esa_turnstile.specs.declared.view.Sight.{Sight}
 use Rattle.esa_turnstile.specs.declared.view.View.{View}
 use Rattle.esa_turnstile.specs.declared.pass.Pass.{Pass}
 use Rattle.esa_turnstile.specs.Views.{note_of, joined}

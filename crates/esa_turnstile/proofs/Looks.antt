@@ -1,5 +1,5 @@
 -- The step that looks whether it is a seat's turn.
-use Rattle.std.proofs.Common.{◌≡◌, ◌≢◌, ℕ, zero, suc, ◌+◌, ◌*◌, ◌<◌, ◌≤◌, ◌⊎◌, true, false, List, [], ◌∷◌, length, get_or, set, All, Option, Some, IfSome, refl, sym, ap, ◌∙◌, subst, inl, inr, ⊎_elim, true≢false, arith}
+use Rattle.std.proofs.Common.{◌≡◌, ◌≢◌, ℕ, ◌*◌, ◌<◌, ◌≤◌, false, List, [], ◌∷◌, length, get_or, set, All, Option, Some, IfSome, refl, sym, ap, ◌∙◌, subst, inr, ⊎_elim, true≢false, arith}
 use Rattle.std.proofs.lemmas.List.Elements.{All-weaker}
 use mathlib.Core.List.{IsPrefix}
 use mathlib.Core.Option.{some, none, some-injective}
@@ -10,8 +10,7 @@ use Rattle.atomic_table.specs.Table.{State, Me, step, keeps, takes, Allows}
 use Rattle.atomic_table.proofs.Lists.{set_here}
 use Rattle.esa_turnstile.specs.declared.view.About.{About}
 use Rattle.esa_turnstile.specs.declared.view.Member.{Member}
-use Rattle.esa_turnstile.specs.declared.view.Stage.{Stage}
-use Rattle.esa_turnstile.specs.declared.view.Stage.TheVariants.{Outside, Waiting, Inside}
+use Rattle.esa_turnstile.specs.declared.view.Stage.TheVariants.{Waiting}
 use Rattle.esa_turnstile.specs.declared.view.View.{View}
 use Rattle.esa_turnstile.specs.Entries.{times}
 use Rattle.esa_turnstile.specs.Views.{held, ticket, is_inside, entered}

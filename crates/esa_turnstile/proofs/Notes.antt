@@ -1,11 +1,10 @@
 -- A seat is copied, put into another, and learns that it has seen no less.
-use Rattle.std.proofs.Common.{◌≡◌, ◌≢◌, ℕ, ◌+◌, ◌*◌, ◌≤◌, ◌⊎◌, Bool, true, false, cond, leb, max, List, [], ◌∷◌, ◌++◌, length, get_or, sum_by, count_by, All, Option, Some, IfSome, refl, sym, ap, ◌∙◌, subst, inl, inr, ⊎_elim, leb-true, leb-false, le_of_lt, add-zero, mul-zero, mul-add, length-append, arith}
+use Rattle.std.proofs.Common.{◌≡◌, ℕ, ◌+◌, ◌*◌, ◌≤◌, ◌⊎◌, Bool, true, false, cond, leb, max, List, [], ◌∷◌, ◌++◌, length, get_or, count_by, All, Option, Some, IfSome, refl, sym, ap, ◌∙◌, subst, inl, inr, ⊎_elim, leb-true, leb-false, le_of_lt, add-zero, mul-zero, mul-add, length-append, arith}
 use Rattle.std.proofs.lemmas.Bool.{cases_Bool}
 use Rattle.std.proofs.lemmas.List.Sums.{sum_by-append}
 use Rattle.std.proofs.lemmas.List.Elements.{All-nil, All-cons, All-append, All-weaker}
 use mathlib.Core.List.{IsPrefix}
-use mathlib.Core.Option.{none, some}
-use lib.ListN.{get_elem?}
+use mathlib.Core.Option.{none}
 use Rattle.atomic_table.specs.Table.{State, Me, step, keeps, Allows, Splits, Joins}
 use Rattle.esa_turnstile.specs.declared.view.About.{About}
 use Rattle.esa_turnstile.specs.declared.view.Member.{Member}
@@ -15,7 +14,7 @@ use Rattle.esa_turnstile.specs.declared.view.View.{View}
 use Rattle.esa_turnstile.specs.Entries.{times}
 use Rattle.esa_turnstile.specs.Views.{held, added, bears, later, note_of, joined, spent}
 use Rattle.esa_turnstile.specs.Lock.{IsCounted, IsEarlier, Fits, Kept}
-use Rattle.esa_turnstile.specs.Steps.{WasHeard, HasHeard, Hears}
+use Rattle.esa_turnstile.specs.Steps.{WasHeard, Hears}
 use Rattle.esa_turnstile.proofs.Prefixes.{prefix-length, prefix-refl, prefix-trans, prefix-shorter, times-prefix}
 use Rattle.esa_turnstile.proofs.Rebuilt.{stays}
 use Rattle.esa_turnstile.proofs.Reseated.{splits, joins}

@@ -1,9 +1,7 @@
 -- What contracts see of a turnstile and of its passes.
-use Rattle.std.specs.Prelude.{◌≡◌, ℕ, ◌+◌, List, [], length, Option, Some, true, false}
+use Rattle.std.specs.Prelude.{◌≡◌, ℕ, ◌+◌, List, [], Option, Some, true}
 use Rattle.esa_turnstile.specs.declared.view.Member.{Member}
-use Rattle.esa_turnstile.specs.declared.view.Sight.{Sight}
-use Rattle.esa_turnstile.specs.declared.view.Stage.{Stage}
-use Rattle.esa_turnstile.specs.declared.view.Stage.TheVariants.{Outside, Waiting, Inside}
+use Rattle.esa_turnstile.specs.declared.view.Stage.TheVariants.{Outside}
 use Rattle.esa_turnstile.specs.declared.view.View.{View}
 use Rattle.atomic_table.specs.declared.shared.Seat.{Seat}
 use Rattle.esa_turnstile.specs.declared.pass.Pass.{Pass}

@@ -1,5 +1,5 @@
 -- What a seat knows, and how each step changes it.
-use Rattle.std.specs.Prelude.{ℕ, zero, suc, ◌+◌, ◌-◌, ◌*◌, ◌==◌, max, Bool, true, false, List, [], ◌∷◌, ◌++◌, length, take, drop, nat_le, if◌then◌else◌, Option, Some, None, sum_by, count_by}
+use Rattle.std.specs.Prelude.{ℕ, zero, suc, ◌+◌, ◌-◌, ◌*◌, ◌==◌, max, Bool, true, false, List, [], ◌∷◌, ◌++◌, length, take, drop, nat_le, if◌then◌else◌, Option, Some, None, count_by}
 use Rattle.esa_turnstile.specs.declared.view.About.{About}
 use Rattle.esa_turnstile.specs.declared.view.Member.{Member}
 use Rattle.esa_turnstile.specs.declared.view.Sight.{Sight}

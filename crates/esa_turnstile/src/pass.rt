@@ -14,11 +14,11 @@ pub(crate) type Place<T> = Seat<Option<T>, View<T>>;
 pub struct Pass<T> {
     pub(crate) number: u32,
     pub(crate) seat: Place<T>,
-    ghost member: { seat.me.0.members ≡ one number (first_added seat.me.0.members) },
-    ghost counted: { times number seat.me.0.seen.entries ≡ first_added seat.me.0.members },
-    ghost found: { times number (latest seat.me.0).entries ≡ first_added seat.me.0.members },
-    ghost share: { (seat.me.0.left + held seat.me.0.stage) + first_added seat.me.0.members ≡ tickets_in seat.me.0.about },
-    ghost carries: { seat.me.1 ≡ carried_in seat.me.0.stage },
+    pub ghost member: { seat.me.0.members ≡ one number (first_added seat.me.0.members) },
+    pub ghost counted: { times number seat.me.0.seen.entries ≡ first_added seat.me.0.members },
+    pub ghost found: { times number (latest seat.me.0).entries ≡ first_added seat.me.0.members },
+    pub ghost share: { (seat.me.0.left + held seat.me.0.stage) + first_added seat.me.0.members ≡ tickets_in seat.me.0.about },
+    pub ghost carries: { seat.me.1 ≡ carried_in seat.me.0.stage },
 }
 
 impl<T> Pass<T> {

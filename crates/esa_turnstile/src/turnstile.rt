@@ -25,8 +25,8 @@ const SLOT: usize = 0;
 #[derive(Drop)]
 pub struct Turnstile<T: Logged> {
     table: Table<Option<T>, View<T>, About<T>, Lock, Global>,
-    ghost sized: { (table.shared.table_id.words ≡ 2) × (table.shared.table_id.slots ≡ 1) },
-    ghost some: { 0 < table.shared.key.passes },
+    pub ghost sized: { (table.shared.table_id.words ≡ 2) × (table.shared.table_id.slots ≡ 1) },
+    pub ghost some: { 0 < table.shared.key.passes },
 }
 
 /// A new turnstile, and its passes in the order of their numbers.

@@ -1,4 +1,4 @@
-use Rattle.std.proofs.Common.{◌≡◌, ℕ, ◌+◌, ◌*◌, ◌<◌, List, length, All, Result, Ok, Err, IfOk, arith}
+use Rattle.std.proofs.Common.{◌≡◌, ℕ, ◌*◌, ◌<◌, length, All, Result, Ok, Err, IfOk, arith}
 use Rattle.esa_turnstile.specs.declared.roll.Roll.{Roll}
 use Rattle.esa_turnstile.specs.Rolls.{entries_in}
 use Rattle.esa_turnstile.specs.Entries.{times}

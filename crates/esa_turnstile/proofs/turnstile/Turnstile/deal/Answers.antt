@@ -1,6 +1,6 @@
 use Rattle.std.proofs.Common.{rules, [], ap, ◌∙◌}
 use Rattle.esa_turnstile.specs.Views.{rest_of}
-use Rattle.esa_turnstile.proofs.Dealing.{deals, rest-is, one-is}
+use Rattle.esa_turnstile.proofs.Dealing.{deals, rest-is}
 use Rattle.esa_turnstile.proofs.turnstile.Turnstile.deal.Goals as goal
 
 pub split_seat-seat-requires : goal.split_seat-seat-requires

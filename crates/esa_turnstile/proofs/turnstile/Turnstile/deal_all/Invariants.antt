@@ -1,4 +1,4 @@
-use Rattle.std.proofs.Common.{◌≡◌, ℕ, ◌<◌, List, [], length, slice_index_or, All, vec_capacity}
+use Rattle.std.proofs.Common.{◌≡◌, ℕ, ◌<◌, [], length, slice_index_or, All, vec_capacity}
 use Rattle.esa_turnstile.specs.Views.{dealing}
 use Rattle.esa_turnstile.specs.Passes.{tickets_of, opened_of, IsSeatOf, IsPassOf, IsNewPass}
 use Rattle.esa_turnstile.proofs.turnstile.Turnstile.deal_all.Given as goal

@@ -1,4 +1,4 @@
-use Rattle.std.proofs.Common.{◌≡◌, [], Some, length, refl, arith}
+use Rattle.std.proofs.Common.{◌≡◌, Some, length, refl, arith}
 use Rattle.std.proofs.lemmas.List.Elements.{All-pop}
 use Rattle.esa_turnstile.specs.Passes.{IsPassOf, IsOutside}
 use Rattle.esa_turnstile.proofs.Gathering.{gathers, gathers-first, gathered-all, nothing-left}

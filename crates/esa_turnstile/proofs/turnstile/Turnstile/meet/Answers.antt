@@ -1,4 +1,4 @@
-use Rattle.std.proofs.Common.{ap, sym, ◌∙◌}
+use Rattle.std.proofs.Common.{ap, ◌∙◌}
 use Rattle.esa_turnstile.proofs.Counts.{own, still-one, saw-last, heard-both}
 use Rattle.esa_turnstile.proofs.turnstile.Turnstile.meet.Goals as goal
 

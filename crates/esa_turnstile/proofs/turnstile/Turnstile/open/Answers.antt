@@ -1,4 +1,4 @@
-use Rattle.std.proofs.Common.{◌≡◌, Some, Option, refl, subst, sym}
+use Rattle.std.proofs.Common.{refl, subst, sym}
 use Rattle.std.specs.Prelude.{IsSome}
 use Rattle.esa_turnstile.proofs.Closing.{closes, closes-with}
 use Rattle.esa_turnstile.proofs.turnstile.Turnstile.open.Goals as goal
