@@ -15,3 +15,4 @@ pub mod TurnLaws
 pub mod WalkLaws
 pub mod ExchangeLaws
 pub mod HistoryLaws
+pub mod LengthLaws

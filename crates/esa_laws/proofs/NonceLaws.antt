@@ -14,13 +14,13 @@ use Rattle.esa_params.specs.declared.slot.Op.TheVariants.{Read as Reads, Write a
 use Rattle.esa_params.specs.declared.slot.Access.{Access}
 use Rattle.esa_laws.proofs.PermLaws.{occurrences, occurs-cons, occurs-append}
 use Rattle.esa_laws.proofs.Ranges.{map-below-suc}
-use Rattle.esa_laws.proofs.RoundLaws.{by_pushes, rounds, new-held, as-before, stood, same-claims, claims-start, phase-more, phase-end, other-phase, next-by_phase, event-read, event-exchange, event-write}
-use Rattle.esa_laws.proofs.SpreadLaws.{find-below, through-other}
+use Rattle.esa_laws.proofs.RoundLaws.{by_pushes, Past, past-stays, past-now, next-by_phase, event-read, event-exchange, event-write}
+use Rattle.esa_laws.proofs.SpreadLaws.{find-below, through-begins}
 use Rattle.esa_laws.proofs.Sums.{bit}
 use Rattle.esa_laws.proofs.TurnLaws.{events-push, one_of}
 use Rattle.esa_spec.specs.Draws.{Draw}
 use Rattle.esa_spec.specs.Traces.{asked, through, made, spread, written_input, load, chunk_slot, read_chunk, import_reads, step_accesses, walk, written_tail, drain, rest, attempt_trace, is_failed, attempts, shuffle_trace, read_output, scan, scans, good_attempt, trace, written_nonce, written_nonces}
-use Rattle.esa_spec.specs.Turns.{event_of, events, exchanged, order, next, next_phase, claims, held}
+use Rattle.esa_spec.specs.Turns.{event_of, events, order, next, next_phase, held}
 use Rattle.esa_spec.specs.Verdicts.{failing, is_finished, left, is_left, Step, Import, Put, imported, steps, steps_of, step_verdict, is_good}
 use Rattle.esa_spec.specs.declared.event.Event.{Event}
 use Rattle.esa_spec.specs.declared.event.Event.TheVariants.{Claim, Read, Exchange, Write, Done, Idle}
@@ -248,8 +248,7 @@ record Chunk (p : Sizes) (a : ℕ) (h : List ℕ) (n : ℕ) : Type 0 where
   target_in : target < p.b
   bucket_in : bucket < p.b
   is : n ≡ nonce_of p a (chunk_slot p bucket target)
-  claimed : bucket < claims p.b h
-  later : (v : ℕ) → next_phase p.b h v ≢ 0 → held p.b h v ≡ bucket → target + 3 < next_phase p.b h v
+  past : Past p.b h bucket (target + 3)
 
 record Chunks (p : Sizes) (a : ℕ) (h : List ℕ) : Type 0 where
   once : (n : ℕ) → written n (made_by p a h) ≤ 1
@@ -264,58 +263,16 @@ module _ (p : Sizes) (a : ℕ) (h : List ℕ) (w : ℕ) where
       ∙ ap (λ y. written n (made_by p a h) + written n y) (one_of (asked p a (next p.b h w)))
       ∙ ap (λ e. written n (made_by p a h) + asks p a n e) (next-by_phase p.b h w)
 
-  -- the phase of the turn's own worker afterwards
-  own-later : next_phase p.b (h ++ w ∷ []) w ≢ 0 → next_phase p.b (h ++ w ∷ []) w ≡ next_phase p.b h w + 1
-  own-later on = ⊎_elim
-      (λ (short : next_phase p.b h w + 1 < p.b + 3). phase-more p.b h w short)
-      (λ (long : p.b + 3 ≤ next_phase p.b h w + 1).
-      let in_phases : next_phase p.b h w < p.b + 3 = omega arith in
-      absurd (on (phase-end p.b h w (omega arith))))
-      (cases_lt (next_phase p.b h w + 1) (p.b + 3))
-
   -- what is known of a chunk that was written stays
   stays : (n : ℕ) → Chunk p a h n → Chunk p a (h ++ w ∷ []) n
-  stays n c = ⊎_elim
-      (λ (start : next_phase p.b h w ≡ 0).
-      let r = rounds p.b h in
-      record {
-        bucket = c.bucket;
-        target = c.target;
-        target_in = c.target_in;
-        bucket_in = c.bucket_in;
-        is = c.is;
-        claimed = omega (arith, c.claimed, claims-start p.b h w start);
-        later = λ v on holds. ⊎_elim
-            (λ (e : v ≡ w).
-            let new : held p.b (h ++ w ∷ []) v ≡ claims p.b h = ap (held p.b (h ++ w ∷ [])) e ∙ new-held p.b h w r start in
-            absurd (omega (arith, new, holds, c.claimed)))
-            (λ (ne : v ≢ w).
-            let was = as-before p.b h w r start v ne on in
-            omega (arith, other-phase p.b h w v ne, c.later v was.0 (sym was.1 ∙ holds)))
-            (cases_eq v w);
-      })
-      (λ (inside : next_phase p.b h w ≢ 0).
-      let r = rounds p.b h in
-      record {
-        bucket = c.bucket;
-        target = c.target;
-        target_in = c.target_in;
-        bucket_in = c.bucket_in;
-        is = c.is;
-        claimed = omega (arith, c.claimed, same-claims p.b h w r inside);
-        later = λ v on holds.
-            let was = stood p.b h w r inside v on in
-            let before = c.later v was.0 (sym was.1 ∙ holds) in
-            ⊎_elim
-            (λ (e : v ≡ w).
-            let P : ℕ → Type 0 = λ y. next_phase p.b (h ++ w ∷ []) y ≡ next_phase p.b h y + 1 in
-            let more : next_phase p.b (h ++ w ∷ []) v ≡ next_phase p.b h v + 1 =
-            subst P (sym e) (own-later (λ z. on (ap (next_phase p.b (h ++ w ∷ [])) e ∙ z))) in
-            omega (arith, before, more))
-            (λ (ne : v ≢ w). omega (arith, other-phase p.b h w v ne, before))
-            (cases_eq v w);
-      })
-      (cases_eq (next_phase p.b h w) 0)
+  stays n c = record {
+    bucket = c.bucket;
+    target = c.target;
+    target_in = c.target_in;
+    bucket_in = c.bucket_in;
+    is = c.is;
+    past = past-stays p.b h w c.bucket (c.target + 3) c.past;
+  }
 
   -- the turn writes a chunk
   module _ (s : Chunks p a h) (g_in : held p.b h w < p.b) (late : 3 ≤ next_phase p.b h w)
@@ -350,28 +307,21 @@ module _ (p : Sizes) (a : ℕ) (h : List ℕ) (w : ℕ) where
         let c = s.chunk nonce_now some in
         let place : held p.b h w * p.b + (next_phase p.b h w - 3) ≡ c.bucket * p.b + c.target = omega (arith, c.is) in
         let parts = same_from_place (held p.b h w) (next_phase p.b h w - 3) c.bucket c.target p.b target_small c.target_in place in
-        let early = c.later w in_round_now parts.0 in
+        let early = c.past.later w in_round_now parts.0 in
         absurd (omega (arith, early, parts.1, late)))
         (cases_eq (written nonce_now (made_by p a h)) 0)
 
     new-chunk : Chunk p a (h ++ w ∷ []) nonce_now
     unfolding nonce_now
     new-chunk =
-        let r = rounds p.b h in
+        let phase : next_phase p.b h w - 3 + 3 ≡ next_phase p.b h w = omega arith in
         record {
           bucket = held p.b h w;
           target = next_phase p.b h w - 3;
           target_in = target_small;
           bucket_in = g_in;
           is = refl;
-          claimed = omega (arith, r.claimed w in_round_now, same-claims p.b h w r in_round_now);
-          later = λ v on holds.
-              let was = stood p.b h w r in_round_now v on in
-              let same : v ≡ w = r.apart v w was.0 in_round_now (sym was.1 ∙ holds) in
-              let P : ℕ → Type 0 = λ y. next_phase p.b (h ++ w ∷ []) y ≡ next_phase p.b h w + 1 in
-              let more : next_phase p.b (h ++ w ∷ []) v ≡ next_phase p.b h w + 1 =
-              subst P (sym same) (own-later (λ z. on (ap (next_phase p.b (h ++ w ∷ [])) same ∙ z))) in
-              omega (arith, more, late);
+          past = subst (Past p.b (h ++ w ∷ []) (held p.b h w)) (sym phase) (past-now p.b h w in_round_now);
         }
 
     chunk-written : Chunks p a (h ++ w ∷ [])
@@ -401,33 +351,15 @@ chunks : (p : Sizes) (a : ℕ) (h : List ℕ) → Chunks p a h
 chunks p a h = by_pushes (Chunks p a) (record { once = λ n. omega arith; chunk = λ n some. absurd (some refl) }) (chunks-step p a) h
 
 -- what comes behind the failing exchange isn't made
-written-front : (p : Sizes) (a n : ℕ) (e : Event) (es : List Event) → written n (filter_map (asked p a) (e ∷ es)) ≡ asks p a n e + written n (filter_map (asked p a) es)
-written-front p a n e es =
-    ap (written n) (filter_map-append (asked p a) (e ∷ []) es)
-    ∙ written-append n (filter_map (asked p a) (e ∷ [])) (filter_map (asked p a) es)
-    ∙ ap (λ y. written n y + written n (filter_map (asked p a) es)) (one_of (asked p a e))
-
-fewer-other : (p : Sizes) (a n k : ℕ) (e : Event) (es : List Event) → exchanged e ≡ None
-    → written n (filter_map (asked p a) (through k es)) ≤ written n (filter_map (asked p a) es)
-    → written n (filter_map (asked p a) (through k (e ∷ es))) ≤ written n (filter_map (asked p a) (e ∷ es))
-fewer-other p a n k e es other fewer =
+fewer-through : (p : Sizes) (a n k : ℕ) (es : List Event) → written n (filter_map (asked p a) (through k es)) ≤ written n (filter_map (asked p a) es)
+fewer-through p a n k es =
+    let b = through-begins k es in
     omega (
       arith,
-      ap (λ y. written n (filter_map (asked p a) y)) (through-other k e es other),
-      written-front p a n e (through k es),
-      written-front p a n e es,
-      fewer,
+      ap (λ y. written n (filter_map (asked p a) y)) b.is,
+      ap (written n) (filter_map-append (asked p a) (through k es) b.behind),
+      written-append n (filter_map (asked p a) (through k es)) (filter_map (asked p a) b.behind),
     )
-
-fewer-through : (p : Sizes) (a n k : ℕ) (es : List Event) → written n (filter_map (asked p a) (through k es)) ≤ written n (filter_map (asked p a) es)
-fewer-through p a n k [] = omega arith
-fewer-through p a n k (Claim j ∷ es) = fewer-other p a n k (Claim j) es refl (fewer-through p a n k es)
-fewer-through p a n k (Read j ∷ es) = fewer-other p a n k (Read j) es refl (fewer-through p a n k es)
-fewer-through p a n zero (Exchange j ∷ es) = omega arith
-fewer-through p a n (suc k) (Exchange j ∷ es) = fewer-through p a n k es
-fewer-through p a n k (Write j i ∷ es) = fewer-other p a n k (Write j i) es refl (fewer-through p a n k es)
-fewer-through p a n k (Done ∷ es) = fewer-other p a n k Done es refl (fewer-through p a n k es)
-fewer-through p a n k (Idle ∷ es) = fewer-other p a n k Idle es refl (fewer-through p a n k es)
 
 fewer-made : (p : Sizes) (a n : ℕ) (f : Option ℕ) (es : List Event) → written n (filter_map (asked p a) (made f es)) ≤ written n (filter_map (asked p a) es)
 fewer-made p a n None es = omega arith

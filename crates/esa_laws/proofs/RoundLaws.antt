@@ -435,3 +435,61 @@ all-written b h j j_in all = known ((rounds b h).stands j j_in)
     known (unclaimed late none unwritten) = absurd (omega arith)
     known (in_round v inside holds exchanged written) = let in_phases : next_phase b h v < b + 3 = omega arith in absurd (omega (arith, written, in_phases, all))
     known (complete claimed free exchanged written) = record { claimed = claimed; free = free; exchanged = exchanged }
+
+-- bucket j is past a phase: it is claimed, and whoever has it stands in a later phase
+pub record Past (b : ℕ) (h : List ℕ) (j f : ℕ) : Type 0 where
+  pub claimed : j < claims b h
+  pub later : (v : ℕ) → next_phase b h v ≢ 0 → held b h v ≡ j → f < next_phase b h v
+
+-- the phase of the turn's own worker afterwards
+own-later : (b : ℕ) (h : List ℕ) (w : ℕ) → next_phase b (h ++ w ∷ []) w ≢ 0 → next_phase b (h ++ w ∷ []) w ≡ next_phase b h w + 1
+own-later b h w on = ⊎_elim
+    (λ (short : next_phase b h w + 1 < b + 3). phase-more b h w short)
+    (λ (long : b + 3 ≤ next_phase b h w + 1).
+    let in_phases : next_phase b h w < b + 3 = omega arith in
+    absurd (on (phase-end b h w (omega arith))))
+    (cases_lt (next_phase b h w + 1) (b + 3))
+
+later-of : (b : ℕ) (h : List ℕ) (v w : ℕ) → v ≡ w → next_phase b (h ++ w ∷ []) v ≢ 0 → next_phase b (h ++ w ∷ []) v ≡ next_phase b h v + 1
+later-of b h v w e on =
+    let P : ℕ → Type 0 = λ y. next_phase b (h ++ w ∷ []) y ≡ next_phase b h y + 1 in
+    subst P (sym e) (own-later b h w (λ z. on (ap (next_phase b (h ++ w ∷ [])) e ∙ z)))
+
+pub past-stays : (b : ℕ) (h : List ℕ) (w j f : ℕ) → Past b h j f → Past b (h ++ w ∷ []) j f
+past-stays b h w j f past =
+    let r = rounds b h in
+    ⊎_elim
+    (λ (start : next_phase b h w ≡ 0). record {
+      claimed = omega (arith, past.claimed, claims-start b h w start);
+      later = λ v on holds. ⊎_elim
+          (λ (e : v ≡ w).
+          let new : held b (h ++ w ∷ []) v ≡ claims b h = ap (held b (h ++ w ∷ [])) e ∙ new-held b h w r start in
+          absurd (omega (arith, new, holds, past.claimed)))
+          (λ (ne : v ≢ w).
+          let was = as-before b h w r start v ne on in
+          omega (arith, other-phase b h w v ne, past.later v was.0 (sym was.1 ∙ holds)))
+          (cases_eq v w);
+    })
+    (λ (inside : next_phase b h w ≢ 0). record {
+      claimed = omega (arith, past.claimed, same-claims b h w r inside);
+      later = λ v on holds.
+          let was = stood b h w r inside v on in
+          let before = past.later v was.0 (sym was.1 ∙ holds) in
+          ⊎_elim
+          (λ (e : v ≡ w). omega (arith, before, later-of b h v w e on))
+          (λ (ne : v ≢ w). omega (arith, other-phase b h w v ne, before))
+          (cases_eq v w);
+    })
+    (cases_eq (next_phase b h w) 0)
+
+-- a bucket is past the phase of the turn that was made
+pub past-now : (b : ℕ) (h : List ℕ) (w : ℕ) → next_phase b h w ≢ 0 → Past b (h ++ w ∷ []) (held b h w) (next_phase b h w)
+past-now b h w inside =
+    let r = rounds b h in
+    record {
+      claimed = omega (arith, r.claimed w inside, same-claims b h w r inside);
+      later = λ v on holds.
+          let was = stood b h w r inside v on in
+          let same_worker : v ≡ w = r.apart v w was.0 inside (sym was.1 ∙ holds) in
+          omega (arith, later-of b h v w same_worker on, ap (next_phase b h) same_worker);
+    }

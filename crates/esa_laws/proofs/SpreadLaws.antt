@@ -63,6 +63,24 @@ through-append k (Done ∷ es) more h =
 through-append k (Idle ∷ es) more h =
     through-other k Idle (es ++ more) refl ∙ ap (λ y. Idle ∷ y) (through-append k es more h) ∙ sym (through-other k Idle es refl)
 
+-- the events up to an exchange are a beginning of all
+pub record Begins (xs es : List Event) : Type 0 where
+  pub behind : List Event
+  pub is : es ≡ xs ++ behind
+
+passes : (k : ℕ) (e : Event) (es : List Event) → exchanged e ≡ None → Begins (through k es) es → Begins (through k (e ∷ es)) (e ∷ es)
+passes k e es other b = record { behind = b.behind; is = ap (λ y. e ∷ y) b.is ∙ sym (ap (λ y. y ++ b.behind) (through-other k e es other)) }
+
+pub through-begins : (k : ℕ) (es : List Event) → Begins (through k es) es
+through-begins k [] = record { behind = []; is = refl }
+through-begins k (Claim j ∷ es) = passes k (Claim j) es refl (through-begins k es)
+through-begins k (Read j ∷ es) = passes k (Read j) es refl (through-begins k es)
+through-begins zero (Exchange j ∷ es) = record { behind = es; is = refl }
+through-begins (suc k) (Exchange j ∷ es) = let b = through-begins k es in record { behind = b.behind; is = ap (λ y. Exchange j ∷ y) b.is }
+through-begins k (Write j i ∷ es) = passes k (Write j i) es refl (through-begins k es)
+through-begins k (Done ∷ es) = passes k Done es refl (through-begins k es)
+through-begins k (Idle ∷ es) = passes k Idle es refl (through-begins k es)
+
 -- a number that is found below n is below n, and passes
 or-cases : (f : ℕ → Bool) (n k : ℕ) (before : Option ℕ) → (before ≡ Some k → (k < n) × (f k ≡ true)) → option_or before (cond (f n) (Some n) None) ≡ Some k → (k < suc n) × (f k ≡ true)
 or-cases f n k (Some j) kept e = let found = kept e in (omega (arith, found.0), found.1)

@@ -7,6 +7,7 @@
 pub mod attempts;
 pub mod completions;
 pub mod histories;
+pub mod lengths;
 pub mod lines;
 pub mod nonces;
 pub mod orders;
