@@ -16,3 +16,5 @@ pub mod WalkLaws
 pub mod ExchangeLaws
 pub mod HistoryLaws
 pub mod LengthLaws
+pub mod SizeLaws
+pub mod VerdictLaws

@@ -1,14 +1,14 @@
 -- Where an attempt is good, each place comes out once.
-use Rattle.std.proofs.Common.{◌≡◌, ◌≢◌, ℕ, zero, suc, ◌+◌, ◌-◌, ◌*◌, ◌≤◌, ◌<◌, Bool, true, false, not, cond, ◌==◌, List, [], ◌∷◌, ◌++◌, length, get_or, take, drop, map, replicate, refl, sym, ◌∙◌, ap, subst, arith, add-one, add-zero, append_assoc, append-nil, length-append, length-take, length-drop}
-use Rattle.std.specs.List.{sum_by, count_by, flat_map, filter_map, cons_option, range_with_len, position_or_len, All}
+use Rattle.std.proofs.Common.{◌≡◌, ◌≢◌, ℕ, zero, suc, ◌+◌, ◌-◌, ◌*◌, ◌≤◌, ◌<◌, Bool, true, false, not, cond, ◌==◌, List, [], ◌∷◌, ◌++◌, length, get_or, take, drop, map, replicate, refl, sym, ◌∙◌, ap, subst, arith, add-one, add-zero, append-nil, length-append, length-take, length-drop}
+use Rattle.std.specs.List.{sum_by, count_by, flat_map, filter_map, cons_option, position_or_len, All}
 use Rattle.std.specs.List.Sorted.{IsPermutation}
 use Rattle.std.specs.Prelude.{Option, Some, None, nat_lt}
 use Rattle.std.proofs.lemmas.Bool.{eq-eqb}
 use Rattle.std.proofs.lemmas.Bool.Decides.{nat_tests}
-use Rattle.std.proofs.lemmas.List.{map-id, get_or-take, get_or-drop, take-append-drop, take_all, drop_all, length-map, length-replicate}
+use Rattle.std.proofs.lemmas.List.{get_or-take, get_or-drop, take-append-drop, take_all, drop_all, length-map, length-replicate}
 use Rattle.std.proofs.lemmas.List.Concat.{length-flat_map, flat_map-append}
 use Rattle.std.proofs.lemmas.List.Folds.{sum_by-replicate}
-use Rattle.std.proofs.lemmas.List.FromFn.{fill_by_all, length-range_with_len, get_or-range_with_len, map-range_with_len_more}
+use Rattle.std.proofs.lemmas.List.FromFn.{fill_by_all, length-range_with_len, get_or-range_with_len}
 use Rattle.std.proofs.lemmas.List.Sorted.{sum_by-IsPermutation, All-permutation, length_permutation}
 use Rattle.std.proofs.lemmas.List.Sums.{sum_by-cons, sum_by-append, get_or-le-sum_by, position_or_len_is}
 use Rattle.std.proofs.lemmas.Option.{unwrap_or-slice_get}
@@ -18,7 +18,7 @@ use Rattle.esa_laws.proofs.FinishLaws.{none-found}
 use Rattle.esa_laws.proofs.LineLaws.{length-batches, length-queued}
 use Rattle.esa_laws.proofs.PermLaws.{occurrences, occurs-cons, occurs-append, permutes-counted}
 use Rattle.esa_laws.proofs.QueueLaws.{batch, queue-more, leaving-more, joined-take}
-use Rattle.esa_laws.proofs.Ranges.{below-suc, sum-below-suc, sum-below-same}
+use Rattle.esa_laws.proofs.Ranges.{below-suc, below-add, sum-below-suc, sum-below-same}
 use Rattle.esa_laws.proofs.Sums.{bit, sum-below-add, sum-below-each, sum-below-zero, sum-below-swap, hit-value, sum-of-map, sum-of-flat_map}
 use Rattle.esa_laws.proofs.TotalLaws.{all-exchanged, once, order-permutes}
 use Rattle.esa_spec.specs.Draws.{Draw, IsDrawn, chosen}
@@ -127,7 +127,7 @@ length-chosen-step : (i t y : ℕ) (ts ys : List ℕ) (c : Bool) → length (con
 length-chosen-step i t y ts ys true = omega arith
 length-chosen-step i t y ts ys false = omega arith
 
-length-chosen : (i : ℕ) (ts ys : List ℕ) → length ts ≡ length ys → length (chosen i ts ys) ≡ count_by (λ t. t == i) ts
+pub length-chosen : (i : ℕ) (ts ys : List ℕ) → length ts ≡ length ys → length (chosen i ts ys) ≡ count_by (λ t. t == i) ts
 length-chosen i [] ys long = refl
 length-chosen i (t ∷ ts) [] long = absurd (omega arith)
 length-chosen i (t ∷ ts) (y ∷ ys) long =
@@ -151,19 +151,6 @@ chosen-counts x b (t ∷ ts) (y ∷ ys) long all =
     (λ i i_in. chosen-step x i t y ts ys (t == i))
     ∙ sum-below-add (λ i. cond (t == i) (bit (y == x)) 0) (λ i. occurrences x (chosen i ts ys)) b
     ∙ omega (arith, hit-value t b (bit (y == x)) here, rest, occurs-cons y x ys)
-
--- the places of the first buckets are the numbers below the next bucket's first place
-range-suc : (a n : ℕ) → range_with_len a (suc n) ≡ range_with_len a n ++ (a + n) ∷ []
-range-suc a n =
-    ap (range_with_len a) (sym (add-one n)) ∙ sym (map-id (range_with_len a (n + 1))) ∙ map-range_with_len_more (λ (y : ℕ). y) a n (a + n) refl
-    ∙ ap (λ y. y ++ (a + n) ∷ []) (map-id (range_with_len a n))
-
-below-add : (m n : ℕ) → below (m + n) ≡ below m ++ range_with_len m n
-below-add m zero = ap below (add-zero m) ∙ sym (append-nil (below m))
-below-add m (suc n) =
-    let next : m + suc n ≡ suc (m + n) = omega arith in
-    ap below next ∙ below-suc (m + n) ∙ ap (λ y. y ++ (m + n) ∷ []) (below-add m n) ∙ append_assoc (below m) (range_with_len m n) ((m + n) ∷ [])
-    ∙ ap (λ y. below m ++ y) (sym (range-suc m n))
 
 module _ (p : Sizes) (x : ℕ) where
   places-counts : (m : ℕ) → sum_by (λ j. occurrences x (places_of p j)) (below m) ≡ occurrences x (below (first p m))

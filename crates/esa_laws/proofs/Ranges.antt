@@ -1,6 +1,6 @@
 -- Lists made from ranges of numbers: one number more, and functions that agree on a range.
-use Rattle.std.proofs.Common.{◌≡◌, ℕ, zero, suc, ◌+◌, ◌<◌, Bool, cond, [], ◌∷◌, ◌++◌, map, refl, sym, ◌∙◌, ap, add-one, arith}
-use Rattle.std.specs.List.{sum_by, count_by, find}
+use Rattle.std.proofs.Common.{◌≡◌, ℕ, zero, suc, ◌+◌, ◌<◌, Bool, cond, [], ◌∷◌, ◌++◌, map, refl, sym, ◌∙◌, ap, add-one, arith, add-zero, append-nil, append_assoc}
+use Rattle.std.specs.List.{range_with_len, sum_by, count_by, find}
 use Rattle.std.specs.Prelude.{Some, None}
 use Rattle.std.specs.Option.{option_or}
 use Rattle.std.proofs.lemmas.List.{map-id, map-append}
@@ -17,6 +17,19 @@ below-suc n =
 
 pub below-add-one : (n : ℕ) → below (n + 1) ≡ below n ++ n ∷ []
 below-add-one n = ap below (add-one n) ∙ below-suc n
+
+-- a range that goes on
+pub range-suc : (a n : ℕ) → range_with_len a (suc n) ≡ range_with_len a n ++ (a + n) ∷ []
+range-suc a n =
+    ap (range_with_len a) (sym (add-one n)) ∙ sym (map-id (range_with_len a (n + 1))) ∙ map-range_with_len_more (λ (y : ℕ). y) a n (a + n) refl
+    ∙ ap (λ y. y ++ (a + n) ∷ []) (map-id (range_with_len a n))
+
+pub below-add : (m n : ℕ) → below (m + n) ≡ below m ++ range_with_len m n
+below-add m zero = ap below (add-zero m) ∙ sym (append-nil (below m))
+below-add m (suc n) =
+    let next : m + suc n ≡ suc (m + n) = omega arith in
+    ap below next ∙ below-suc (m + n) ∙ ap (λ y. y ++ (m + n) ∷ []) (below-add m n) ∙ append_assoc (below m) (range_with_len m n) ((m + n) ∷ [])
+    ∙ ap (λ y. below m ++ y) (sym (range-suc m n))
 
 module _ {Y : Type 0} where
   pub map-below-suc : (f : ℕ → Y) (n : ℕ) → map f (below (suc n)) ≡ map f (below n) ++ f n ∷ []

@@ -14,5 +14,6 @@ pub mod orders;
 pub mod permutations;
 pub mod queues;
 pub mod rounds;
+pub mod sizes;
 pub mod spreads;
 pub mod turns;
