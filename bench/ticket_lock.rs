@@ -1,12 +1,11 @@
 //! An ordinary ticket lock, with the standard library's atomics alone, to compare the turnstile with.
 //!
 //! `ticket_lock TURNS THREADS INSIDE OUTSIDE` lets each thread enter so often, add its number to a list
-//! and work so many steps inside and outside, and prints the nanoseconds from the first turn to the
-//! last. With no threads it works TURNS steps alone.
+//! and work so many steps inside and outside, and prints the nanoseconds until the last thread has come
+//! back. With no threads it works TURNS steps alone.
 
 use std::cell::UnsafeCell;
 use std::hint;
-use std::sync::Barrier;
 use std::sync::atomic::{AtomicU64, Ordering};
 use std::thread;
 use std::time::Instant;
@@ -48,14 +47,13 @@ fn work(mut state: u64, steps: u64) -> u64 {
 
 fn crew(turns: u64, threads: u64, inside: u64, outside: u64) -> u128 {
     let lock = TicketLock::new(Vec::<u32>::with_capacity((turns * threads) as usize));
-    let ready = Barrier::new(threads as usize + 1);
     let mut sums = 0;
-    let spent = thread::scope(|scope| {
+    let start = Instant::now();
+    thread::scope(|scope| {
         let crew: Vec<_> = (0..threads)
             .map(|number| {
-                let (lock, ready) = (&lock, &ready);
+                let lock = &lock;
                 scope.spawn(move || {
-                    ready.wait();
                     let mut state = number + 1;
                     for _ in 0..turns {
                         state = lock.with(|list| {
@@ -68,13 +66,11 @@ fn crew(turns: u64, threads: u64, inside: u64, outside: u64) -> u128 {
                 })
             })
             .collect();
-        ready.wait();
-        let start = Instant::now();
         for one in crew {
             sums ^= one.join().unwrap();
         }
-        start.elapsed().as_nanos()
     });
+    let spent = start.elapsed().as_nanos();
     assert_eq!(lock.value.into_inner().len() as u64, turns * threads);
     eprintln!("{sums:x}");
     spent
