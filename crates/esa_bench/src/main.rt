@@ -8,22 +8,40 @@
 
 mod bare;
 mod forward;
+mod turnstile;
 
 use anyhow::{Context, Result, bail};
 use forward::Values;
 use std::env;
 use std::rt::Files;
+use turnstile::Load;
 
 fn main(rt: HostRuntime) -> Result<()> {
     let mut words = env::args(&rt)?;
     let _program = words.next();
     let Some(module) = words.next() else {
-        return bare::small(&rt);
+        bare::small(&rt)?;
+        return turnstile::small(&rt, rt.alloc());
     };
     let size = match words.next() {
         Some(text) => text.parse::<u64>().context("a size")?,
         None => bail!("a module's name wants a size"),
     };
+    if module.as_str() == "turnstile" {
+        let mut more = [0u64; 3];
+        for number in more.iter_mut() {
+            if let Some(text) = words.next() {
+                *number = text.parse::<u64>().context("a number")?;
+            }
+        }
+        let load = Load {
+            turns: size,
+            threads: more[0],
+            inside: more[1],
+            outside: more[2],
+        };
+        return turnstile::measure(&rt, rt.alloc(), &load);
+    }
     run(&rt, module.as_str(), size)
 }
 

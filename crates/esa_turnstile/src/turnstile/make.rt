@@ -1,7 +1,7 @@
 //! How a turnstile is made, and its passes are given out.
 ghost use Rattle.std.specs.Prelude.{◌≡◌, ◌+◌, ◌-◌, ◌*◌, ◌^◌, ◌<◌, ℕ, [], ◌∷◌, length, slice_index_or, Some, IfOk, IfErr, All, ◌≤◌, vec_capacity};
 ghost use Rattle.esa_turnstile.specs.Views.{dealing};
-ghost use Rattle.esa_turnstile.specs.Passes.{passes_of, tickets_of, opened_of, IsSeatOf, IsPassOf, IsNewPass};
+ghost use Rattle.esa_turnstile.specs.Passes.{passes_of, tickets_of, opened_of, IsSeatOf, IsPassOf, IsNewPass, number_of};
 
 use super::{NoTurnstile, Opened, Turnstile};
 use crate::logged::Logged;
@@ -30,7 +30,7 @@ impl<T: Logged> Turnstile<T> {
         ensures opened { IfOk result (λ o. opened_of o.turnstile ≡ value) }
         ensures count { IfOk result (λ o. length o.passes.items ≡ passes) }
         ensures dealt { IfOk result (λ o. All (λ p. IsPassOf o.turnstile p × IsNewPass tickets (T.mark value) p) o.passes.items) }
-        ensures numbers { IfOk result (λ o. (x : ℕ) (d : _) → x < passes → (slice_index_or o.passes.items x d).number ≡ x) }
+        ensures numbers { IfOk result (λ o. (x : ℕ) (d : _) → x < passes → number_of (slice_index_or o.passes.items x d) ≡ x) }
         ensures refused { IfErr result (λ e. e.value ≡ value) }
     {
         let Ok(mut dealt) = Vec::with_capacity(alloc, passes as usize) else {
@@ -68,7 +68,7 @@ impl<T: Logged> Turnstile<T> {
         requires room { (dealt.old.items ≡ []) × (passes ≤ vec_capacity dealt.old) }
         ensures count { length dealt.new.items ≡ passes }
         ensures dealt { All (λ p. IsPassOf self.now p × IsNewPass (tickets_of self.now) (T.mark (opened_of self.now)) p) dealt.new.items }
-        ensures numbers { (x : ℕ) (d : _) → x < passes → (slice_index_or dealt.new.items x d).number ≡ x }
+        ensures numbers { (x : ℕ) (d : _) → x < passes → number_of (slice_index_or dealt.new.items x d) ≡ x }
     {
         for number in 0..passes {
             let pass = self.deal(seat, number);
@@ -83,7 +83,7 @@ impl<T: Logged> Turnstile<T> {
         ensures table { IsSeatOf self.now seat.new }
         ensures rest { seat.new.me ≡ (dealing T.mark self.now.table.shared.key (number + 1), []) }
         ensures pass { IsPassOf self.now result × IsNewPass (tickets_of self.now) (T.mark (opened_of self.now)) result }
-        ensures number { result.number ≡ number }
+        ensures number { number_of result ≡ number }
     {
         let seat = self.table.shared.split_seat::<Deal>(seat);
         Pass { number, seat }
