@@ -6,3 +6,4 @@ pub mod RowReading
 pub mod RowWriting
 pub mod DbLaws
 pub mod Counting
+pub mod RunWriting

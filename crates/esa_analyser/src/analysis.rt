@@ -48,6 +48,17 @@ impl Analysis {
         })
     }
 
+    /// Replaces what was counted by the reports of the envelopes.
+    fn recount(&mut self, inner: &Keys, envelopes: &[u8])
+        requires whole { (n : ℕ) × (length envelopes.now ≡ inner_length self.old.form * n) × (n ≤ self.old.room) }
+        ensures { (list : List (List ℕ)) → HaveLength (inner_length self.old.form) list → envelopes.now ≡ concat list
+            → self.new ≡ record self.old { database = database_of inner.now list } }
+    {
+        let number = envelopes.len() / self.kept.form().inner() as usize;
+        self.rows = self.kept.count(&prepare(inner), envelopes, number);
+        self.total = number as u32;
+    }
+
     /// Counts the reports of inner envelopes that are joined, under the inner keys of their form and
     /// epoch. It begins anew: what was counted before is forgotten. It takes no memory.
     pub fn count(&mut self, inner: &Keys, envelopes: &[u8])
@@ -63,9 +74,7 @@ impl Analysis {
         ensures any_order { (list others : List (List ℕ)) → HaveLength (inner_length self.old.form) list → envelopes.now ≡ concat list
             → IsPermutation list others → self.new.database ≡ database_of inner.now others }
     {
-        let number = envelopes.len() / self.kept.form().inner() as usize;
-        self.rows = self.kept.count(&prepare(inner), envelopes, number);
-        self.total = number as u32;
+        self.recount(inner, envelopes);
     }
 
     /// The number of rows of the database.

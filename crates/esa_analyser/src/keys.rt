@@ -1,6 +1,6 @@
 //! Lists of sort keys: filled from envelopes, sorted, and walked run by run.
 
-ghost use Rattle.std.specs.Prelude.{◌≡◌, ◌+◌, ◌*◌, ◌<◌, ◌≤◌, ◌^◌, [], ◌∷◌, ◌++◌, All, length, drop, map, filter_map, slice_index_or, vec_capacity};
+ghost use Rattle.std.specs.Prelude.{◌≡◌, ◌+◌, ◌*◌, ◌<◌, ◌≤◌, ◌^◌, [], ◌∷◌, ◌++◌, All, List, ℕ, Option, OnOk, OnErr, length, drop, map, filter_map, slice_index_or, vec_capacity};
 ghost use Rattle.std.specs.Option.{option_to_list};
 ghost use Rattle.std.specs.Ordering.{nat_cmp};
 ghost use Rattle.std.specs.Cmp.Lexicographic.{slice_cmp};
@@ -11,9 +11,16 @@ ghost use Rattle.esa_report.specs.Report.{IsReportLength};
 ghost use Rattle.esa_analyser.specs.Database.{rows_of};
 ghost use Rattle.esa_analyser.specs.Opened.{reported};
 ghost use Rattle.esa_analyser.specs.SortKey.{key_value, IsSortKey};
+ghost use Rattle.esa_analyser.specs.RunBytes.{run_bytes};
+ghost use Rattle.esa_outside.specs.Files.{Files};
+ghost use Rattle.esa_outside.specs.Cause.{HasCause};
+ghost use Rattle.esa_page.specs.Underway.{IsUnderway, IsLeft};
 
-use crate::key::open;
+use crate::key::{open, value};
+use crate::put::put_row;
 use esa_envelope::Prepared;
+use esa_outside::{Cabinet, Failed};
+use esa_page::Page;
 
 /// How many keys at the front equal the first.
 pub(crate) fn run_length<const P: usize>(keys: &[[u8; P]]) -> usize
@@ -104,4 +111,34 @@ pub(crate) fn count<const P: usize>(
     fill(keys, inner, envelopes, number);
     keys.sort_unstable();
     run_count(keys)
+}
+
+/// Puts the rows of sorted keys behind the bytes that wait in the page.
+pub(crate) fn put_runs<const P: usize, K: Cabinet>(
+    keys: &[[u8; P]],
+    page: &mut Page,
+    cabinet: &mut K,
+    name: &str,
+) -> Result<(), Failed>
+    requires size { IsReportLength P }
+    requires few { length keys.now < 2 ^ 32 }
+    requires keys { All (IsSortKey P) keys.now }
+    ensures added { (before : Option Files) (text : List ℕ)
+        → IsUnderway before name.now text page.old (K.told cabinet.old)
+        → OnOk result (IsUnderway before name.now (text ++ run_bytes keys.now) page.new (K.told cabinet.new)) }
+    ensures failed { (before : Option Files) (text : List ℕ)
+        → IsUnderway before name.now text page.old (K.told cabinet.old)
+        → OnErr result (IsLeft before name.now (text ++ run_bytes keys.now) (K.told cabinet.new)) }
+    ensures cause { (before : Option Files) (text : List ℕ)
+        → IsUnderway before name.now text page.old (K.told cabinet.old)
+        → HasCause (K.faults cabinet.old) (K.faults cabinet.new) ⊥ result }
+{
+    let mut rest = keys;
+    while !rest.is_empty() {
+        let equal = run_length(rest);
+        let (_, others) = rest.split_at(equal);
+        put_row(page, cabinet, name, value(&rest[0]), equal as u32)?;
+        rest = others;
+    }
+    Ok(())
 }

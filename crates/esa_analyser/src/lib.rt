@@ -9,6 +9,7 @@ mod keys;
 mod put;
 mod refused;
 mod row;
+mod write;
 
 pub use analysis::Analysis;
 pub use db::{Db, read_db};
