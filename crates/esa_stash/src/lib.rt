@@ -9,3 +9,8 @@ mod totals;
 
 pub use cells::Cells;
 pub use stash::{Left, Overflow, Stash};
+
+#[cfg(test)]
+mod plain;
+#[cfg(test)]
+mod tests;
