@@ -30,18 +30,23 @@ key_columns outer inner drop run share second Second = second
 abbrev yes : Bool
 yes = true
 
-abbrev no : Bool
-no = false
+abbrev off : Bool
+off = false
 
--- the keys that a command needs; an encode job may have shares, which need a key of their own
+-- The keys that a command needs: outer, inner, drop, run, share and second. An encode job may have shares, which need
+-- a key of their own.
 abbrev pub needs_key : Command → Bool → KeyField → Bool
---                                            outer inner drop run share  second
-needs_key command.Encode shares = key_columns yes yes no no shares no
-needs_key command.Shuffle shares = key_columns yes no yes yes no no
-needs_key command.Run shares = key_columns yes yes yes yes no no
-needs_key command.Relay shares = key_columns yes no no yes no yes
-needs_key command.Analyse shares = key_columns no yes no no no no
-needs_key _ shares = λ _. no
+needs_key command.Encode shares =
+    key_columns yes yes off off shares off
+needs_key command.Shuffle shares =
+    key_columns yes off yes yes off off
+needs_key command.Run shares =
+    key_columns yes yes yes yes off off
+needs_key command.Relay shares =
+    key_columns yes off off yes off yes
+needs_key command.Analyse shares =
+    key_columns off yes off off off off
+needs_key _ shares = λ _. off
 
 -- a key that is needed: nothing where it isn't there, or is no text of 64 hexadecimal digits
 abbrev pub key_at : Command → Bool → Data → KeyField → Option (List ℕ)

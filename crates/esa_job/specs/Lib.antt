@@ -1,3 +1,10 @@
+pub use Rattle.serde_json.specs.Data
+pub use Rattle.serde_json.specs.Find
+pub use Rattle.serde_json.specs.View
+pub use Rattle.esa_json.specs.Object
+pub use Rattle.esa_params.specs.Limits
+pub use Rattle.esa_bytes.specs.Decimal
+pub use Rattle.esa_bytes.specs.Lines
 pub mod Word
 pub mod Table
 pub mod Values

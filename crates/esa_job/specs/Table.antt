@@ -45,50 +45,78 @@ columns g e b i s r y a h u v p t command.Recover = v
 columns g e b i s r y a h u v p t command.Plan = p
 columns g e b i s r y a h u v p t command.Audit = t
 
--- how the rows below write what a command makes of a field
+-- how the rows below write what a command makes of a field: it has to be there, may be there, or is ignored
 abbrev yes : Need
 yes = Needed
 
 abbrev may : Need
 may = Optional
 
-abbrev no : Need
-no = Unused
+abbrev off : Need
+off = Unused
 
--- what a command makes of a field: it has to be there, may be there, or is ignored. Of the coins and the seed one
--- has to be there, which is a rule of its own.
+-- What a command makes of a field. Of the coins and the seed one has to be there, which is a rule of its own. The
+-- columns are gen, encode, batch, intake, shuffle, run, relay, analyse, histogram, upgrade, recover, plan and audit.
 abbrev pub need_of : JobField → Command → Need
---                          gen enc bat int shu run rel ana his upg rec pla aud
-need_of Job = λ _. no
-need_of Keys = columns no yes no no yes yes yes yes no no no no no
-need_of Input = columns no yes yes no yes yes yes yes yes yes yes no yes
-need_of Inputs = columns no no no yes no no no no no no no no no
-need_of Output = columns yes yes yes yes yes yes yes yes no yes yes no no
-need_of Trace = columns no no no no may may may no no no no may no
-need_of Turns = columns no no no no may may may no no no no may may
-need_of TurnsOut = columns no no no no may may may no no no no no no
-need_of Drops = columns no no no no may may no no no no no no no
-need_of Coins = columns no no no no may may may no no no no may may
-need_of Seed = columns no no no no may may may no no no no may may
-need_of Draw = columns no no no no may may may no no no no may may
-need_of Records = columns yes no no no no no no no no no no yes yes
-need_of Crowds = columns yes no no no no no no no no no no no no
-need_of Number = columns yes no no no no no no no no no no no no
-need_of NonceBase = columns no yes no no no no yes no no no no no no
-need_of Form = columns no may may may no no no no no no no may may
-need_of Epoch = columns no may may may no no no no no no no no no
-need_of Shares = columns no may no no no no no no no no no no no
-need_of B = columns no no no no yes yes yes no no no no yes yes
-need_of C = columns no no no no yes yes yes no no no no yes yes
-need_of S = columns no no no no yes yes yes no no no no yes yes
-need_of K = columns no no no no yes yes yes no no no no yes yes
-need_of W = columns no no no no yes yes yes no no no no yes yes
-need_of Q = columns no no no no yes yes yes no no no no yes yes
-need_of Workers = columns no no no no yes yes yes no no no no yes yes
-need_of Attempts = columns no no no no yes yes yes no no no no yes yes
-need_of M = columns no no yes yes yes yes yes no no no no no no
-need_of T = columns no no no no yes yes no no no no no no no
-need_of Mode = columns no no no yes yes yes yes no no no no yes yes
+need_of Job = λ _. off
+need_of Keys =
+    columns off yes off off yes yes yes yes off off off off off
+need_of Input =
+    columns off yes yes off yes yes yes yes yes yes yes off yes
+need_of Inputs =
+    columns off off off yes off off off off off off off off off
+need_of Output =
+    columns yes yes yes yes yes yes yes yes off yes yes off off
+need_of Trace =
+    columns off off off off may may may off off off off may off
+need_of Turns =
+    columns off off off off may may may off off off off may may
+need_of TurnsOut =
+    columns off off off off may may may off off off off off off
+need_of Drops =
+    columns off off off off may may off off off off off off off
+need_of Coins =
+    columns off off off off may may may off off off off may may
+need_of Seed =
+    columns off off off off may may may off off off off may may
+need_of Draw =
+    columns off off off off may may may off off off off may may
+need_of Records =
+    columns yes off off off off off off off off off off yes yes
+need_of Crowds =
+    columns yes off off off off off off off off off off off off
+need_of Number =
+    columns yes off off off off off off off off off off off off
+need_of NonceBase =
+    columns off yes off off off off yes off off off off off off
+need_of Form =
+    columns off may may may off off off off off off off may may
+need_of Epoch =
+    columns off may may may off off off off off off off off off
+need_of Shares =
+    columns off may off off off off off off off off off off off
+need_of B =
+    columns off off off off yes yes yes off off off off yes yes
+need_of C =
+    columns off off off off yes yes yes off off off off yes yes
+need_of S =
+    columns off off off off yes yes yes off off off off yes yes
+need_of K =
+    columns off off off off yes yes yes off off off off yes yes
+need_of W =
+    columns off off off off yes yes yes off off off off yes yes
+need_of Q =
+    columns off off off off yes yes yes off off off off yes yes
+need_of Workers =
+    columns off off off off yes yes yes off off off off yes yes
+need_of Attempts =
+    columns off off off off yes yes yes off off off off yes yes
+need_of M =
+    columns off off yes yes yes yes yes off off off off off off
+need_of T =
+    columns off off off off yes yes off off off off off off off
+need_of Mode =
+    columns off off off yes yes yes yes off off off off yes yes
 
 -- plans are for handed-in turns alone
 abbrev pub only_plans : Command → Bool

@@ -1,0 +1,2 @@
+pub use Rattle.esa_params.specs.Sizes
+pub mod Seeded

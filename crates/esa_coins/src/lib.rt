@@ -1,0 +1,5 @@
+//! Coins.
+#![tactic(auto)]
+
+mod draws;
+
