@@ -18,3 +18,4 @@ pub mod HistoryLaws
 pub mod LengthLaws
 pub mod SizeLaws
 pub mod VerdictLaws
+pub mod FileLaws

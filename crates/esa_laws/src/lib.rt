@@ -6,6 +6,7 @@
 
 pub mod attempts;
 pub mod completions;
+pub mod files;
 pub mod histories;
 pub mod lengths;
 pub mod lines;
