@@ -1,10 +1,11 @@
 -- Turns that are made after an attempt is finished change nothing.
-use Rattle.std.proofs.Common.{◌≡◌, ◌≢◌, ℕ, zero, suc, ◌+◌, ◌-◌, ◌*◌, ◌≤◌, ◌<◌, ⊎_elim, Bool, true, false, cond, ◌||◌, ◌==◌, List, [], ◌∷◌, ◌++◌, length, drop, refl, sym, ◌∙◌, ap, subst, arith, append-nil}
+use Rattle.std.proofs.Common.{◌≡◌, ◌≢◌, ℕ, zero, suc, ◌+◌, ◌*◌, ◌≤◌, ◌<◌, ⊎_elim, true, false, cond, ◌||◌, ◌==◌, List, [], ◌∷◌, ◌++◌, length, drop, refl, sym, ◌∙◌, ap, subst, arith, append-nil}
 use Rattle.std.specs.Prelude.{Option, Some, None, is_some, slice_index, option_to_list}
-use Rattle.std.proofs.lemmas.Bool.{cases_lt, cases_eq, le-ltb}
-use Rattle.std.proofs.lemmas.Bool.Decides.{nat_tests}
+use Rattle.std.proofs.lemmas.Bool.{cases_lt, cases_eq}
 use Rattle.std.proofs.lemmas.List.{get_or_append_left, take-append-drop}
 use Rattle.std.specs.List.{flat_map}
+use Rattle.esa_laws.proofs.Events.{event-by}
+use Rattle.esa_laws.proofs.Tests.{equal}
 use Rattle.esa_params.specs.Sizes.{Sizes, below}
 use Rattle.esa_laws.proofs.FinishLaws.{finished-where, prefix, prefix-finished}
 use Rattle.esa_laws.proofs.RoundLaws.{grown, next-by_phase}
@@ -19,7 +20,6 @@ use Rattle.esa_spec.specs.Turns.{event_of, next, next_phase, held, exchanged, or
 use Rattle.esa_spec.specs.Verdicts.{failing, is_finished, left, settled, verdict}
 use Rattle.esa_spec.specs.declared.event.Verdict.TheVariants.{StashOverflow}
 use Rattle.esa_spec.specs.declared.event.Event.{Event}
-use Rattle.esa_spec.specs.declared.event.Event.TheVariants.{Claim, Read, Exchange, Write, Done, Idle}
 
 -- where all chunks are written, no turn has a bucket
 pub past-all : (b : ℕ) (h : List ℕ) (w : ℕ) → writes b h ≡ b * b → b ≤ held b h w
@@ -43,14 +43,10 @@ pub record Quiet (p : Sizes) (a : ℕ) (e : Event) : Type 0 where
   pub no_write : is_write e ≡ false
   pub no_access : asked p a e ≡ None
 
-quiet-of : (p : Sizes) (a : ℕ) (c : Bool) → Quiet p a (cond c Done Idle)
-quiet-of p a true = record { no_exchange = refl; no_write = refl; no_access = refl }
-quiet-of p a false = record { no_exchange = refl; no_write = refl; no_access = refl }
-
 quiet : (p : Sizes) (a g f : ℕ) → p.b ≤ g → Quiet p a (event_of p.b g f)
-quiet p a g f past =
-    subst (λ c. Quiet p a (cond c (cond (f == 0) (Claim g) (cond (f == 1) (Read g) (cond (f == 2) (Exchange g) (Write g (f - 3))))) (cond (f == 0) Done Idle)))
-    (sym (le-ltb g p.b past)) (quiet-of p a (f == 0))
+quiet p a g f past = event-by (Quiet p a) p.b g f
+    (λ g_in phase. absurd (omega arith)) (λ g_in phase. absurd (omega arith)) (λ g_in phase. absurd (omega arith)) (λ g_in late. absurd (omega arith))
+    (λ past. record { no_exchange = refl; no_write = refl; no_access = refl }) (λ past. record { no_exchange = refl; no_write = refl; no_access = refl })
 
 pub quiet-next : (p : Sizes) (a : ℕ) (h : List ℕ) (w : ℕ) → writes p.b h ≡ p.b * p.b → Quiet p a (next p.b h w)
 quiet-next p a h w all = subst (Quiet p a) (sym (next-by_phase p.b h w)) (quiet p a (held p.b h w) (next_phase p.b h w) (past-all p.b h w all))
@@ -96,9 +92,6 @@ module _ (p : Sizes) (d : Draw) (a k : ℕ) (g : List ℕ) (fails : failing p d 
   failed-after more = grown (Failed p d a k g) failed-step g more (record { fails = fails; bucket = refl; accesses = refl })
 
 -- a finished history: an exchange failed, or all is written
-equal : (x y : ℕ) → (x == y) ≡ true → x ≡ y
-equal x y e = grind (arith, nat_tests)
-
 pub data Ended (p : Sizes) (d : Draw) (h : List ℕ) : Type 0 where
   failed : (k : ℕ) → failing p d (order p.b h) ≡ Some k → Ended p d h
   done : failing p d (order p.b h) ≡ None → writes p.b h ≡ p.b * p.b → Ended p d h

@@ -1,15 +1,15 @@
 -- The exchange of a bucket keeps its number, and a bucket that is exchanged now wasn't exchanged before.
-use Rattle.std.proofs.Common.{◌≡◌, ℕ, suc, ◌+◌, ◌-◌, ◌≤◌, ◌<◌, ⊎_elim, Bool, true, false, not, cond, ◌==◌, List, [], ◌∷◌, ◌++◌, length, refl, sym, ◌∙◌, ap, arith}
+use Rattle.std.proofs.Common.{◌≡◌, ℕ, suc, ◌+◌, ◌≤◌, ◌<◌, Bool, true, false, not, cond, ◌==◌, List, [], ◌∷◌, ◌++◌, length, refl, sym, ◌∙◌, ap, arith}
 use Rattle.std.specs.Prelude.{Some, option_to_list}
-use Rattle.std.proofs.lemmas.Bool.{cases_lt, eq-eqb, lt-ltb, le-ltb}
+use Rattle.std.proofs.lemmas.Bool.{eq-eqb}
+use Rattle.esa_laws.proofs.Events.{event-by}
+use Rattle.esa_laws.proofs.Tests.{bit}
 use Rattle.esa_laws.proofs.PermLaws.{occurrences, occurs-cons, occurs-append}
 use Rattle.esa_laws.proofs.RoundLaws.{next-by_phase}
-use Rattle.esa_laws.proofs.Sums.{bit}
 use Rattle.esa_laws.proofs.TotalLaws.{at-most-once}
 use Rattle.esa_laws.proofs.TurnLaws.{order-push}
 use Rattle.esa_spec.specs.Places.{exchange_of}
 use Rattle.esa_spec.specs.Turns.{event_of, next, next_phase, held, exchanged, order}
-use Rattle.esa_spec.specs.declared.event.Event.TheVariants.{Claim, Read, Exchange, Write, Done, Idle}
 
 -- the index of the first entry j, with more behind
 here-or-later : (c : Bool) (m n : ℕ) → m ≡ n → cond (not c) (1 + m) 0 ≡ cond (not c) (1 + n) 0
@@ -38,22 +38,9 @@ exchange_of-push (x ∷ o) j none = new-by x j o (x == j) refl (sym (occurs-cons
 
 -- a bucket that is exchanged is one of the b buckets
 exchanged-in : (b g f j : ℕ) → exchanged (event_of b g f) ≡ Some j → j < b
-exchanged-in b g f j e = ⊎_elim
-    (λ (g_in : g < b). inside g_in (f == 0) (f == 1) (f == 2)
-    (sym (ap (λ c. exchanged (cond c (cond (f == 0) (Claim g) (cond (f == 1) (Read g) (cond (f == 2) (Exchange g) (Write g (f - 3))))) (cond (f == 0) Done Idle))) (lt-ltb g b g_in)) ∙ e))
-    (λ (past : b ≤ g). absurd (outside (f == 0)
-    (sym (ap (λ c. exchanged (cond c (cond (f == 0) (Claim g) (cond (f == 1) (Read g) (cond (f == 2) (Exchange g) (Write g (f - 3))))) (cond (f == 0) Done Idle))) (le-ltb g b past)) ∙ e)))
-    (cases_lt g b)
-  where
-    inside : g < b → (x y z : Bool) → exchanged (cond x (Claim g) (cond y (Read g) (cond z (Exchange g) (Write g (f - 3))))) ≡ Some j → j < b
-    inside g_in true y z e' = absurd (cc)
-    inside g_in false true z e' = absurd (cc)
-    inside g_in false false true e' = let is : g ≡ j = cc in omega arith
-    inside g_in false false false e' = absurd (cc)
-
-    outside : (x : Bool) → exchanged (cond x Done Idle) ≡ Some j → ⊥
-    outside true e' = cc
-    outside false e' = cc
+exchanged-in b g f j = event-by (λ e. exchanged e ≡ Some j → j < b) b g f
+    (λ g_in phase e. absurd (cc)) (λ g_in phase e. absurd (cc)) (λ g_in phase e. let is : g ≡ j = cc in omega arith) (λ g_in late e. absurd (cc))
+    (λ past e. absurd (cc)) (λ past e. absurd (cc))
 
 pub exchange-in : (b : ℕ) (h : List ℕ) (w j : ℕ) → exchanged (next b h w) ≡ Some j → j < b
 exchange-in b h w j e = exchanged-in b (held b h w) (next_phase b h w) j (sym (ap exchanged (next-by_phase b h w)) ∙ e)

@@ -11,9 +11,10 @@ use Rattle.std.proofs.lemmas.List.{take_all, take_at, take-take, take-append-le,
 use Rattle.std.proofs.lemmas.List.FromFn.{length-range_with_len, get_or-range_with_len}
 use Rattle.std.proofs.lemmas.List.Sums.{sum_by-cons, sum_by-append}
 use Rattle.std.proofs.lemmas.List.Elements.{All-append}
+use Rattle.esa_laws.proofs.Tests.{bit, unequal}
 use Rattle.esa_params.specs.Sizes.{Sizes, below}
 use Rattle.esa_laws.proofs.Ranges.{sum-below-same, find-below-suc, below-suc}
-use Rattle.esa_laws.proofs.Sums.{bit, hit-once, sum-below-each}
+use Rattle.esa_laws.proofs.Sums.{hit-once, sum-below-each}
 use Rattle.esa_laws.proofs.RoundLaws.{Stands, rounds, writes_of, unclaimed, in_round, complete}
 use Rattle.esa_laws.proofs.SpreadLaws.{find-below}
 use Rattle.esa_laws.proofs.TotalLaws.{total-writes}
@@ -67,7 +68,7 @@ no_turns : (w v : ℕ) (h : List ℕ) → AllBelow w h → w ≤ v → turns_of 
 no_turns w v [] all past = refl
 no_turns w v (x ∷ xs) all past =
     let first : x < w = all 0 0 (omega arith) in
-    let other : (x == v) ≡ false = grind (arith, nat_tests) in
+    let other = unequal x v (λ e. absurd (omega arith)) in
     omega (arith, sum_by-cons (λ u. bit (u == v)) x xs, ap bit other, no_turns w v xs (All-tail w x xs all) past)
 
 -- where each worker had b rounds, all chunks are written

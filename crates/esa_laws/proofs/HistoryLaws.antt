@@ -2,11 +2,10 @@
 use Rattle.std.proofs.Common.{◌≡◌, ◌≢◌, ℕ, zero, suc, ◌+◌, ◌-◌, ◌≤◌, ◌<◌, Bool, true, false, cond, ◌==◌, List, [], ◌∷◌, ◌++◌, length, get_or, take, drop, refl, sym, ◌∙◌, ap, arith, length-append, length-drop, length-take}
 use Rattle.std.specs.List.{onto_first}
 use Rattle.std.proofs.lemmas.Bool.{eq-eqb}
-use Rattle.std.proofs.lemmas.Bool.Decides.{nat_tests}
 use Rattle.std.proofs.lemmas.List.{take-append-le, drop-append-le, take_all, get_or_push, take_more, get_or-drop, drop_all}
 use Rattle.std.proofs.lemmas.List.Splits.{length-slice_split}
 use Rattle.std.proofs.lemmas.List.Sums.{sum_by_push}
-use Rattle.esa_laws.proofs.Sums.{bit}
+use Rattle.esa_laws.proofs.Tests.{bit, unequal}
 use Rattle.esa_spec.specs.Histories.{parts, lists, latest, begun}
 
 abbrev is_owner : ℕ → ℕ → Bool
@@ -64,7 +63,7 @@ module _ (owner : ℕ) where
       ap (λ q. onto_first x (onto_last y q)) s.is ∙ onto-both x y s.first s.others ∙ sym (ap (λ q. onto_last y (onto_first x q)) s.is)
 
   parts-worker : (h : List ℕ) (w : ℕ) → w ≢ owner → parts owner (h ++ w ∷ []) ≡ onto_last w (parts owner h)
-  parts-worker [] w ne = let other : (w == owner) ≡ false = grind (arith, nat_tests) in ap (λ c. cond c ([] ∷ [] ∷ []) ((w ∷ []) ∷ [])) other
+  parts-worker [] w ne = let other = unequal w owner ne in ap (λ c. cond c ([] ∷ [] ∷ []) ((w ∷ []) ∷ [])) other
   parts-worker (x ∷ h) w ne =
       ap (λ y. cond (x == owner) ([] ∷ y) (onto_first x y)) (parts-worker h w ne) ∙ worker-by x w h (x == owner) (some-part owner h)
 
@@ -150,5 +149,5 @@ begun-owner owner h = sum_by_push (λ entry. bit (entry == owner)) h owner ∙ a
 
 pub begun-worker : (owner : ℕ) (h : List ℕ) (w : ℕ) → w ≢ owner → begun owner (h ++ w ∷ []) ≡ begun owner h
 begun-worker owner h w ne =
-    let other : (w == owner) ≡ false = grind (arith, nat_tests) in
+    let other = unequal w owner ne in
     sum_by_push (λ entry. bit (entry == owner)) h w ∙ omega (arith, ap bit other)

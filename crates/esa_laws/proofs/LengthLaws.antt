@@ -1,29 +1,30 @@
 -- How many accesses a run makes at most.
-use Rattle.std.proofs.Common.{◌≡◌, ◌≢◌, ℕ, zero, suc, ◌+◌, ◌-◌, ◌*◌, ◌≤◌, ◌<◌, ⊎_elim, Bool, true, false, cond, ◌==◌, List, [], ◌∷◌, ◌++◌, length, map, refl, sym, ◌∙◌, ap, subst, arith, length-append}
+use Rattle.std.proofs.Common.{◌≡◌, ◌≢◌, ℕ, zero, suc, ◌+◌, ◌-◌, ◌*◌, ◌≤◌, ⊎_elim, Bool, true, false, cond, ◌==◌, List, [], ◌∷◌, ◌++◌, length, map, refl, sym, ◌∙◌, ap, subst, arith, length-append}
 use Rattle.std.specs.List.{count_by, sum_by, filter_map, flat_map, range_with_len}
-use Rattle.std.specs.Prelude.{Option, Some, None, unwrap_or, nat_lt}
-use Rattle.std.proofs.lemmas.Bool.{cases_lt, cases_eq, lt-ltb, le-ltb}
-use Rattle.std.proofs.lemmas.Bool.Decides.{nat_tests}
+use Rattle.std.specs.Prelude.{Option, Some, None, unwrap_or}
+use Rattle.std.proofs.lemmas.Bool.{cases_eq}
 use Rattle.std.proofs.lemmas.List.{length-map}
 use Rattle.std.proofs.lemmas.List.Elements.{filter_map-append}
 use Rattle.std.proofs.lemmas.Nat.{mul-le}
 use Rattle.std.proofs.lemmas.List.FromFn.{length-range_with_len}
 use Rattle.std.proofs.lemmas.List.Sums.{sum_by_push, sum_by-cons, sum_by-append}
+use Rattle.esa_laws.proofs.Tests.{bit, equal}
+use Rattle.esa_laws.proofs.Events.{event-by}
 use Rattle.esa_params.specs.Sizes.{Sizes, below}
 use Rattle.esa_params.specs.Slots.{access_of, at, greatest_trace}
 use Rattle.esa_params.specs.declared.slot.Op.TheVariants.{Read as Reads, Write as Writes}
 use Rattle.esa_params.specs.declared.slot.Region.TheVariants.{Tail, Output}
 use Rattle.esa_params.specs.declared.slot.Access.{Access}
-use Rattle.esa_laws.proofs.Ranges.{sum-below-suc, sum-below-same}
+use Rattle.esa_laws.proofs.Ranges.{sum-below-suc}
 use Rattle.esa_laws.proofs.RoundLaws.{by_pushes, Past, past-stays, past-now, next-by_phase, writes_of, writes_of-le}
-use Rattle.esa_laws.proofs.SpreadLaws.{find-below, through-begins}
-use Rattle.esa_laws.proofs.Sums.{bit, sum-below-zero, sum-below-add, sum-below-le, hit-once, sum-of-flat_map}
-use Rattle.esa_laws.proofs.TotalLaws.{total-writes}
+use Rattle.esa_laws.proofs.SpreadLaws.{left-in, through-begins}
+use Rattle.esa_laws.proofs.Sums.{sum-below-le, hit-once, sum-of-flat_map}
+use Rattle.esa_laws.proofs.TotalLaws.{by_buckets, zeros, total-writes}
 use Rattle.esa_laws.proofs.TurnLaws.{events-push}
 use Rattle.esa_spec.specs.Draws.{Draw}
 use Rattle.esa_spec.specs.Traces.{asked, through, made, spread, load, written_input, read_chunk, import_reads, written_tail, read_output, step_accesses, walk, drain, rest, attempt_trace, is_failed, attempts, shuffle_trace, scan, scans, good_attempt, trace}
 use Rattle.esa_spec.specs.Turns.{event_of, events, next, next_phase, held, is_write, order, writes}
-use Rattle.esa_spec.specs.Verdicts.{failing, is_finished, left, is_left, Step, Import, Put, imported, steps, steps_of, step_verdict, is_good}
+use Rattle.esa_spec.specs.Verdicts.{failing, is_finished, left, Step, Import, Put, imported, steps, steps_of, step_verdict, is_good}
 use Rattle.esa_spec.specs.declared.event.Event.{Event}
 use Rattle.esa_spec.specs.declared.event.Event.TheVariants.{Claim, Read, Exchange, Write, Done, Idle}
 
@@ -49,17 +50,10 @@ reads_of-push b h w j =
 
 -- a bucket that is read is the worker's own, in phase 1
 read-is : (b g f j : ℕ) → is_read_of j (event_of b g f) ≡ true → (f ≡ 1) × (g ≡ j)
-read-is b g f j e = by (nat_lt g b) (f == 0) refl (f == 1) refl (f == 2) e
-  where
-    by : (c x : Bool) → (f == 0) ≡ x → (y : Bool) → (f == 1) ≡ y → (z : Bool)
-        → is_read_of j (cond c (cond x (Claim g) (cond y (Read g) (cond z (Exchange g) (Write g (f - 3))))) (cond x Done Idle)) ≡ true
-        → (f ≡ 1) × (g ≡ j)
-    by true true ex y ey z e' = absurd (cc)
-    by true false ex true ey z e' = (grind (arith, nat_tests), grind (arith, nat_tests))
-    by true false ex false ey true e' = absurd (cc)
-    by true false ex false ey false e' = absurd (cc)
-    by false true ex y ey z e' = absurd (cc)
-    by false false ex y ey z e' = absurd (cc)
+read-is b g f j =
+    event-by (λ e. is_read_of j e ≡ true → (f ≡ 1) × (g ≡ j)) b g f
+    (λ g_in phase e. absurd (cc)) (λ g_in phase e. (phase, equal g j e)) (λ g_in phase e. absurd (cc)) (λ g_in late e. absurd (cc))
+    (λ past e. absurd (cc)) (λ past e. absurd (cc))
 
 -- no bucket is read twice
 record ReadOnce (b : ℕ) (j : ℕ) (h : List ℕ) : Type 0 where
@@ -89,40 +83,11 @@ read-step b j h w s = by (is_read_of j (event_of b (held b h w) (next_phase b h 
 reads_of-le : (b : ℕ) (h : List ℕ) (j : ℕ) → reads_of b h j ≤ 1
 reads_of-le b h j = (by_pushes (ReadOnce b j) (record { once = omega arith; past = λ some. absurd (some refl) }) (read-step b j) h).once
 
--- an event reads one of the buckets or none
-abbrev ReadsOne : ℕ → Event → Type 0
-ReadsOne b e = sum_by (λ j. bit (is_read_of j e)) (below b) ≡ bit (is_read e)
-
-one-of : (b : ℕ) (c : Bool) (x y : Event) → ReadsOne b x → ReadsOne b y → ReadsOne b (cond c x y)
-one-of b true x y px py = px
-one-of b false x y px py = py
-
-none : (b : ℕ) → sum_by (λ (j : ℕ). 0) (below b) ≡ 0
-none b = sum-below-zero (λ j. 0) b (λ x h. refl)
-
-read-one : (b g f : ℕ) → ReadsOne b (event_of b g f)
-read-one b g f = ⊎_elim
-    (λ (g_in : g < b).
-    subst (λ c. ReadsOne b (cond c (cond (f == 0) (Claim g) (cond (f == 1) (Read g) (cond (f == 2) (Exchange g) (Write g (f - 3))))) (cond (f == 0) Done Idle)))
-    (sym (lt-ltb g b g_in))
-    (one-of b (f == 0) (Claim g) _ (none b) (one-of b (f == 1) (Read g) _ (hit-once g b g_in) (one-of b (f == 2) (Exchange g) (Write g (f - 3)) (none b) (none b)))))
-    (λ (past : b ≤ g).
-    subst (λ c. ReadsOne b (cond c (cond (f == 0) (Claim g) (cond (f == 1) (Read g) (cond (f == 2) (Exchange g) (Write g (f - 3))))) (cond (f == 0) Done Idle)))
-    (sym (le-ltb g b past))
-    (one-of b (f == 0) Done Idle (none b) (none b)))
-    (cases_lt g b)
-
+-- the buckets that are read are those of the events
 total-reads : (b : ℕ) (h : List ℕ) → reads b h ≡ sum_by (reads_of b h) (below b)
-total-reads b h = by_pushes (λ h. reads b h ≡ sum_by (reads_of b h) (below b)) (sym (sum-below-zero (reads_of b []) b (λ x x_in. refl)))
-    (λ h w before.
-    let e = event_of b (held b h w) (next_phase b h w) in
-    let hit = λ (j : ℕ). bit (is_read_of j e) in
-    let one : reads b (h ++ w ∷ []) ≡ reads b h + bit (is_read e) =
-    ap (count_by is_read) (events-push b h w) ∙ sum_by_push (λ e. bit (is_read e)) (events b h) (next b h w) ∙ ap (λ y. reads b h + bit (is_read y)) (next-by_phase b h w) in
-    let each : sum_by (reads_of b (h ++ w ∷ [])) (below b) ≡ sum_by (λ j. reads_of b h j + hit j) (below b) =
-    sum-below-same (reads_of b (h ++ w ∷ [])) (λ j. reads_of b h j + hit j) b (λ j j_in. reads_of-push b h w j) in
-    one ∙ ap (λ y. y + bit (is_read e)) before
-    ∙ sym (each ∙ sum-below-add (reads_of b h) hit b ∙ ap (λ y. sum_by (reads_of b h) (below b) + y) (read-one b (held b h w) (next_phase b h w))))
+total-reads b h = by_buckets is_read is_read_of b
+    (λ g f. event-by (λ e. sum_by (λ j. bit (is_read_of j e)) (below b) ≡ bit (is_read e)) b g f
+    (λ g_in phase. zeros b) (λ g_in phase. hit-once g b g_in) (λ g_in phase. zeros b) (λ g_in late. zeros b) (λ past. zeros b) (λ past. zeros b))
     h
 
 reads-le : (b : ℕ) (h : List ℕ) → reads b h ≤ b
@@ -226,10 +191,6 @@ compression-le p d a =
     omega (arith, walk-le p d a (steps p), steps-cost p p.b, mul-le (imported p p.b) (p.b + 1) p.b (p.b + 1) (imported-few p p.b) (omega arith))
 
 -- the drain and what follows it
-left-few : (p : Sizes) (d : Draw) (o : List ℕ) (l : Option ℕ) → left p d o ≡ l → unwrap_or l p.b ≤ p.b
-left-few p d o (Some i) e = let found = find-below (is_left p d o) p.b i e in omega (arith, found.0)
-left-few p d o None e = omega arith
-
 length-tails : (p : Sizes) (a m : ℕ) → length (map (written_tail p a) (below m)) ≡ m
 length-tails p a m = length-map (below m) (written_tail p a) ∙ length-range_with_len 0 m
 
@@ -242,7 +203,7 @@ rest-le : (p : Sizes) (d : Draw) (a : ℕ) (h : List ℕ) (f : Option ℕ) → l
 rest-le p d a h (Some k) = omega arith
 rest-le p d a h None =
     let l = left p d (order p.b h) in
-    omega (arith, length-if (is_finished p d h) (drain p d a l), drain-le p d a l (left-few p d (order p.b h) l refl))
+    omega (arith, length-if (is_finished p d h) (drain p d a l), drain-le p d a l (left-in p d (order p.b h) l refl))
 
 pub attempt-le : (p : Sizes) (d : Draw) (a : ℕ) (h : List ℕ) → length (attempt_trace p d a h) ≤ 2 * p.b * p.b + 4 * p.b
 attempt-le p d a h =

@@ -2,11 +2,12 @@
 use Rattle.std.proofs.Common.{◌≡◌, ◌≢◌, ℕ, zero, suc, ◌+◌, ◌-◌, ◌*◌, ◌^◌, ◌≤◌, ◌<◌, ⊎_elim, Bool, true, false, cond, ◌==◌, List, [], ◌∷◌, ◌++◌, length, map, refl, sym, ◌∙◌, ap, subst, arith}
 use Rattle.std.specs.List.{range_with_len, filter_map, flat_map, cons_option}
 use Rattle.std.specs.Prelude.{Option, Some, None, option_to_list, unwrap_or}
-use Rattle.std.proofs.lemmas.Bool.{cases_lt, cases_eq, eq-eqb, lt-ltb, le-ltb}
-use Rattle.std.proofs.lemmas.Bool.Decides.{nat_tests}
+use Rattle.std.proofs.lemmas.Bool.{cases_eq, eq-eqb}
 use Rattle.std.proofs.lemmas.List.Concat.{flat_map-append}
 use Rattle.std.proofs.lemmas.List.Elements.{filter_map-append}
 use Rattle.std.proofs.lemmas.Nat.{same_from_place, mul-add-lt, mul-le}
+use Rattle.esa_laws.proofs.Events.{event-by}
+use Rattle.esa_laws.proofs.Tests.{bit, unequal}
 use Rattle.esa_params.specs.Sizes.{Sizes, ArePlanned, below}
 use Rattle.esa_params.specs.Slots.{at, slots_of, nonce_of, access_of}
 use Rattle.esa_params.specs.declared.slot.Region.TheVariants.{Tail, Output}
@@ -14,16 +15,15 @@ use Rattle.esa_params.specs.declared.slot.Op.TheVariants.{Read as Reads, Write a
 use Rattle.esa_params.specs.declared.slot.Access.{Access}
 use Rattle.esa_laws.proofs.PermLaws.{occurrences, occurs-cons, occurs-append}
 use Rattle.esa_laws.proofs.Ranges.{map-below-suc}
-use Rattle.esa_laws.proofs.RoundLaws.{by_pushes, Past, past-stays, past-now, next-by_phase, event-read, event-exchange, event-write}
-use Rattle.esa_laws.proofs.SpreadLaws.{find-below, through-begins}
-use Rattle.esa_laws.proofs.Sums.{bit}
+use Rattle.esa_laws.proofs.RoundLaws.{by_pushes, Past, past-stays, past-now, next-by_phase}
+use Rattle.esa_laws.proofs.SpreadLaws.{left-in, through-begins}
 use Rattle.esa_laws.proofs.TurnLaws.{events-push, one_of}
 use Rattle.esa_spec.specs.Draws.{Draw}
 use Rattle.esa_spec.specs.Traces.{asked, through, made, spread, written_input, load, chunk_slot, read_chunk, import_reads, step_accesses, walk, written_tail, drain, rest, attempt_trace, is_failed, attempts, shuffle_trace, read_output, scan, scans, good_attempt, trace, written_nonce, written_nonces}
 use Rattle.esa_spec.specs.Turns.{event_of, events, order, next, next_phase, held}
-use Rattle.esa_spec.specs.Verdicts.{failing, is_finished, left, is_left, Step, Import, Put, imported, steps, steps_of, step_verdict, is_good}
+use Rattle.esa_spec.specs.Verdicts.{failing, is_finished, left, Step, Import, Put, imported, steps, steps_of, step_verdict, is_good}
 use Rattle.esa_spec.specs.declared.event.Event.{Event}
-use Rattle.esa_spec.specs.declared.event.Event.TheVariants.{Claim, Read, Exchange, Write, Done, Idle}
+use Rattle.esa_spec.specs.declared.event.Event.TheVariants.{Write}
 
 -- how often a nonce is written
 abbrev pub written : ℕ → List Access → ℕ
@@ -79,13 +79,10 @@ fresh-one x m e = record {
   once = λ n. omega (arith, count n, at-most (m == n));
   inside = λ n some. ⊎_elim
       (λ (is : m ≡ n). (omega arith, omega arith))
-      (λ (ne : m ≢ n). absurd (some (count n ∙ ap bit (differ m n ne))))
+      (λ (ne : m ≢ n). absurd (some (count n ∙ ap bit (unequal m n ne))))
       (cases_eq m n);
 }
   where
-    differ : (i j : ℕ) → i ≢ j → (i == j) ≡ false
-    differ i j ne = grind (arith, nat_tests)
-
     at-most : (c : Bool) → bit c ≤ 1
     at-most true = omega arith
     at-most false = omega arith
@@ -106,9 +103,6 @@ quiet-map f n zero none = refl
 quiet-map f n (suc m) none =
     ap (written n) (map-below-suc f m) ∙ written-append n (map f (below m)) (f m ∷ [])
     ∙ omega (arith, quiet-map f n m none, written-one n (f m) None (none m))
-
-unlike : (i j : ℕ) → i ≢ j → (i == j) ≡ false
-unlike i j ne = grind (arith, nat_tests)
 
 -- the load
 fresh-load : (p : Sizes) → Fresh (load p) 0 p.b
@@ -197,10 +191,6 @@ fresh-drain p d a None l_in =
     fresh-append (map (written_tail p a) (below p.b)) (walk p d a (steps p)) (tail_base p a) (output_base p a) (output_base p a + p.b) (omega arith) (omega arith)
     (tails p d a p.b l_in) (fresh-walk p d a)
 
-left-in : (p : Sizes) (d : Draw) (o : List ℕ) (l : Option ℕ) → left p d o ≡ l → unwrap_or l p.b ≤ p.b
-left-in p d o (Some i) e = let found = find-below (is_left p d o) p.b i e in omega (arith, found.0)
-left-in p d o None e = omega arith
-
 fresh-rest : (p : Sizes) (d : Draw) (a : ℕ) (h : List ℕ) (f : Option ℕ) → Fresh (rest p d a h f) (tail_base p a) (output_base p a + p.b)
 fresh-rest p d a h (Some k) = fresh-quiet [] (tail_base p a) (output_base p a + p.b) (λ n. refl)
 fresh-rest p d a h None = by (is_finished p d h)
@@ -217,25 +207,11 @@ data Kind (p : Sizes) (a g f : ℕ) : Type 0 where
 abbrev asks : Sizes → ℕ → ℕ → Event → ℕ
 asks p a n e = written n (option_to_list (asked p a e))
 
--- written out, so that cases can be chosen
-kind-in : (p : Sizes) (a g f : ℕ) → g < p.b → Kind p a g f
-kind-in p a g zero g_in = no_chunk (λ n. ap (λ c. asks p a n (cond c (Claim g) Done)) (lt-ltb g p.b g_in))
-kind-in p a g (suc zero) g_in = no_chunk (λ n. ap (asks p a n) (event-read p.b g g_in))
-kind-in p a g (suc (suc zero)) g_in = no_chunk (λ n. ap (asks p a n) (event-exchange p.b g g_in))
-kind-in p a g (suc (suc (suc i))) g_in = writes_chunk g_in (omega arith) (event-write p.b g (suc (suc (suc i))) g_in (omega arith))
-
-nothing : (p : Sizes) (a n : ℕ) (c : Bool) → asks p a n (cond c Done Idle) ≡ 0
-nothing p a n true = refl
-nothing p a n false = refl
-
 kind : (p : Sizes) (a g f : ℕ) → Kind p a g f
-kind p a g f = ⊎_elim
-    (λ (g_in : g < p.b). kind-in p a g f g_in)
-    (λ (past : p.b ≤ g). no_chunk (λ n.
-    ap (λ c. asks p a n (cond c (cond (f == 0) (Claim g) (cond (f == 1) (Read g) (cond (f == 2) (Exchange g) (Write g (f - 3))))) (cond (f == 0) Done Idle)))
-    (le-ltb g p.b past)
-    ∙ nothing p a n (f == 0)))
-    (cases_lt g p.b)
+kind p a g f = event-by (λ e. e ≡ event_of p.b g f → Kind p a g f) p.b g f
+    (λ g_in phase is. no_chunk (λ n. sym (ap (asks p a n) is))) (λ g_in phase is. no_chunk (λ n. sym (ap (asks p a n) is)))
+    (λ g_in phase is. no_chunk (λ n. sym (ap (asks p a n) is))) (λ g_in late is. writes_chunk g_in late (sym is))
+    (λ past is. no_chunk (λ n. sym (ap (asks p a n) is))) (λ past is. no_chunk (λ n. sym (ap (asks p a n) is))) refl
 
 -- the accesses of all turns
 abbrev made_by : Sizes → ℕ → List ℕ → List Access
@@ -329,11 +305,11 @@ module _ (p : Sizes) (a : ℕ) (h : List ℕ) (w : ℕ) where
       once = λ n. ⊎_elim
           (λ (same : nonce_now ≡ n). subst (λ y. written y (made_by p a (h ++ w ∷ [])) ≤ 1) same
           (omega (arith, hit nonce_now, absent, ap bit (eq-eqb nonce_now nonce_now refl))))
-          (λ (other : nonce_now ≢ n). omega (arith, hit n, ap bit (unlike nonce_now n other), s.once n))
+          (λ (other : nonce_now ≢ n). omega (arith, hit n, ap bit (unequal nonce_now n other), s.once n))
           (cases_eq nonce_now n);
       chunk = λ n some. ⊎_elim
           (λ (same : nonce_now ≡ n). subst (Chunk p a (h ++ w ∷ [])) same new-chunk)
-          (λ (other : nonce_now ≢ n). stays n (s.chunk n (λ e. some (omega (arith, hit n, ap bit (unlike nonce_now n other), e)))))
+          (λ (other : nonce_now ≢ n). stays n (s.chunk n (λ e. some (omega (arith, hit n, ap bit (unequal nonce_now n other), e)))))
           (cases_eq nonce_now n);
     }
 

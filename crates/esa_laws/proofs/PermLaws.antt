@@ -1,14 +1,13 @@
 -- A list of n entries in which each number below n stands once is a permutation of these numbers.
-use Rattle.std.proofs.Common.{◌≡◌, ◌≢◌, ℕ, zero, suc, ◌+◌, ◌<◌, Bool, true, false, ◌==◌, List, [], ◌∷◌, ◌++◌, length, refl, sym, ◌∙◌, ap, subst, arith, length-append}
+use Rattle.std.proofs.Common.{◌≡◌, ℕ, zero, suc, ◌+◌, ◌<◌, Bool, true, false, ◌==◌, List, [], ◌∷◌, ◌++◌, length, refl, sym, ◌∙◌, ap, subst, arith, length-append}
 use Rattle.std.specs.List.{count_by}
 use Rattle.std.specs.List.Sorted.{IsPermutation}
-use Rattle.std.proofs.lemmas.Bool.Decides.{nat_tests}
 use Rattle.std.proofs.lemmas.List.{nil_from_length}
 use Rattle.std.proofs.lemmas.List.Sums.{sum_by-cons, sum_by-append}
 use Rattle.std.proofs.lemmas.List.Sorted.{IsPermutation-refl, IsPermutation-sym, IsPermutation-trans, IsPermutation-cons, IsPermutation-to_front, IsPermutation-middle}
+use Rattle.esa_laws.proofs.Tests.{bit, equal, same, unequal}
 use Rattle.esa_params.specs.Sizes.{below}
 use Rattle.esa_laws.proofs.Ranges.{below-suc}
-use Rattle.esa_laws.proofs.Sums.{bit}
 
 abbrev pub occurrences : ℕ → List ℕ → ℕ
 occurrences j xs = count_by (λ i. i == j) xs
@@ -23,15 +22,12 @@ occurs-cons x j xs = sum_by-cons (λ i. bit (i == j)) x xs
 
 -- a number that occurs stands somewhere
 split-here : (x j : ℕ) (xs : List ℕ) (c : Bool) → (x == j) ≡ c → (c ≡ false → Split xs j) → Split (x ∷ xs) j
-split-here x j xs true e later = let is : x ≡ j = grind (arith, nat_tests) in record { before = []; behind = xs; joins = ap (λ y. y ∷ xs) is }
+split-here x j xs true e later = let is = equal x j e in record { before = []; behind = xs; joins = ap (λ y. y ∷ xs) is }
 split-here x j xs false e later = let rest = later refl in record { before = x ∷ rest.before; behind = rest.behind; joins = ap (λ y. x ∷ y) rest.joins }
 
 split-at : (xs : List ℕ) (j : ℕ) → 0 < occurrences j xs → Split xs j
 split-at [] j h = absurd (omega arith)
 split-at (x ∷ xs) j h = split-here x j xs (x == j) refl (λ e. split-at xs j (omega (arith, occurs-cons x j xs, ap bit e)))
-
-apart : (i j : ℕ) → i ≢ j → (i == j) ≡ false
-apart i j ne = grind (arith, nat_tests)
 
 pub permutes : (n : ℕ) (xs : List ℕ) → length xs ≡ n → ((j : ℕ) → j < n → occurrences j xs ≡ 1) → IsPermutation (below n) xs
 permutes zero xs long each = let empty = nil_from_length xs long in subst (λ y. IsPermutation [] y) (sym empty) (IsPermutation-refl [])
@@ -45,7 +41,7 @@ permutes (suc n) xs long each =
     let fewer : length (ys ++ zs) ≡ n =
     omega (arith, ap length s.joins, length-append ys (n ∷ zs), length-append ys zs) in
     let once : (j : ℕ) → j < n → occurrences j (ys ++ zs) ≡ 1 = λ j j_in.
-    let no : bit (n == j) ≡ 0 = ap bit (apart n j (λ e. absurd (omega arith))) in
+    let no : bit (n == j) ≡ 0 = ap bit (unequal n j (λ e. absurd (omega arith))) in
     omega (arith, whole j, both j, no, each j (omega arith)) in
     let others = permutes n (ys ++ zs) fewer once in
     subst (λ y. IsPermutation y xs) (sym (below-suc n)) (subst (λ y. IsPermutation (below n ++ n ∷ []) y) (sym s.joins)
@@ -54,9 +50,6 @@ permutes (suc n) xs long each =
 
 pub occurs-append : (j : ℕ) (xs ys : List ℕ) → occurrences j (xs ++ ys) ≡ occurrences j xs + occurrences j ys
 occurs-append j xs ys = sum_by-append (λ i. bit (i == j)) xs ys
-
-same : (j : ℕ) → (j == j) ≡ true
-same j = grind (arith, nat_tests)
 
 -- lists in which each number occurs equally often
 pub permutes-counted : (ys xs : List ℕ) → ((j : ℕ) → occurrences j xs ≡ occurrences j ys) → IsPermutation ys xs

@@ -4,7 +4,6 @@ use Rattle.std.specs.List.{sum_by, count_by, flat_map, filter_map, cons_option, 
 use Rattle.std.specs.List.Sorted.{IsPermutation}
 use Rattle.std.specs.Prelude.{Option, Some, None, nat_lt}
 use Rattle.std.proofs.lemmas.Bool.{eq-eqb}
-use Rattle.std.proofs.lemmas.Bool.Decides.{nat_tests}
 use Rattle.std.proofs.lemmas.List.{get_or-take, get_or-drop, take-append-drop, take_all, drop_all, length-map, length-replicate}
 use Rattle.std.proofs.lemmas.List.Concat.{length-flat_map, flat_map-append}
 use Rattle.std.proofs.lemmas.List.Folds.{sum_by-replicate}
@@ -12,6 +11,7 @@ use Rattle.std.proofs.lemmas.List.FromFn.{fill_by_all, length-range_with_len, ge
 use Rattle.std.proofs.lemmas.List.Sorted.{sum_by-IsPermutation, All-permutation, length_permutation}
 use Rattle.std.proofs.lemmas.List.Sums.{sum_by-cons, sum_by-append, get_or-le-sum_by, position_or_len_is}
 use Rattle.std.proofs.lemmas.Option.{unwrap_or-slice_get}
+use Rattle.esa_laws.proofs.Tests.{bit, unequal, not_above}
 use Rattle.esa_params.specs.Sizes.{Sizes, first, size, below, places_of}
 use Rattle.esa_laws.proofs.AfterLaws.{Ended, ended, failed, done}
 use Rattle.esa_laws.proofs.FinishLaws.{none-found}
@@ -19,7 +19,7 @@ use Rattle.esa_laws.proofs.LineLaws.{length-batches, length-queued}
 use Rattle.esa_laws.proofs.PermLaws.{occurrences, occurs-cons, occurs-append, permutes-counted}
 use Rattle.esa_laws.proofs.QueueLaws.{batch, queue-more, leaving-more, joined-take}
 use Rattle.esa_laws.proofs.Ranges.{below-suc, below-add, sum-below-suc, sum-below-same}
-use Rattle.esa_laws.proofs.Sums.{bit, sum-below-add, sum-below-each, sum-below-zero, sum-below-swap, hit-value, sum-of-map, sum-of-flat_map}
+use Rattle.esa_laws.proofs.Sums.{sum-below-add, sum-below-each, sum-below-zero, sum-below-swap, hit-value, sum-of-map, sum-of-flat_map}
 use Rattle.esa_laws.proofs.TotalLaws.{all-exchanged, once, order-permutes}
 use Rattle.esa_spec.specs.Draws.{Draw, IsDrawn, chosen}
 use Rattle.esa_spec.specs.Lines.{chosen_places, batches, backlog, chunk, tail}
@@ -103,12 +103,9 @@ earlier-differs xs m k m_in k_in single same =
     let both = sym (ap (occurrences j) (take-append-drop k xs)) ∙ occurs-append j (take k xs) (drop k xs) in
     omega (arith, front, back, both, single)
 
-differ : (i j : ℕ) → i ≢ j → (i == j) ≡ false
-differ i j ne = grind (arith, nat_tests)
-
 exchange-at : (o : List ℕ) (k : ℕ) → k < length o → occurrences (get_or o k 0) o ≤ 1 → exchange_of o (get_or o k 0) ≡ k
 exchange-at o k k_in single = position_or_len_is (λ x. x == get_or o k 0) o k 0 (omega arith)
-    (λ m m_in. differ (get_or o m 0) (get_or o k 0) (earlier-differs o m k m_in k_in single))
+    (λ m m_in. unequal (get_or o m 0) (get_or o k 0) (earlier-differs o m k m_in k_in single))
     (λ _. eq-eqb (get_or o k 0) (get_or o k 0) refl)
 
 -- a test that passes somewhere passes at an index
@@ -242,9 +239,6 @@ module _ (p : Sizes) (d : Draw) (drawn : IsDrawn p d) (o : List ℕ) (each : len
       ∙ whole-counts p x some)
 
 -- a good attempt has written all, and left nothing that a tail doesn't hold
-not_above : (k m : ℕ) → nat_lt k m ≡ false → m ≤ k
-not_above k m e = grind (arith, nat_tests)
-
 fits-by : (p : Sizes) (d : Draw) (o : List ℕ) (l : Option ℕ) → left p d o ≡ l → drained p d l ≡ Good → (i : ℕ) → i < p.b → backlog p d o p.b i ≤ p.k
 fits-by p d o (Some j) e good i i_in = absurd (cc)
 fits-by p d o None e good i i_in =

@@ -4,12 +4,13 @@ use Rattle.std.specs.List.{count_by}
 use Rattle.std.specs.Prelude.{nat_lt}
 use Rattle.std.proofs.Math.Nat.{mod-add-div', add-mul-mod_self_right, mod-eq_of_lt, mod_self, mul-mod_left}
 use Rattle.std.proofs.lemmas.Bool.{cases_lt, cases_eq, eq-eqb, lt-ltb}
-use Rattle.std.proofs.lemmas.Bool.Decides.{nat_tests}
 use Rattle.std.proofs.lemmas.List.Sums.{sum_by_push}
+use Rattle.esa_laws.proofs.Events.{event-by, event-read, event-exchange, event-write}
+use Rattle.esa_laws.proofs.Tests.{same, unequal}
 use Rattle.esa_laws.proofs.TurnLaws.{turns_of-push, claims-push, events-push, held-at_claim, held-own, held-other, phase-next}
 use Rattle.esa_spec.specs.Turns.{turns_of, event_of, events, next, next_phase, claims, held}
 use Rattle.esa_spec.specs.declared.event.Event.{Event}
-use Rattle.esa_spec.specs.declared.event.Event.TheVariants.{Claim, Read, Exchange, Write, Done, Idle}
+use Rattle.esa_spec.specs.declared.event.Event.TheVariants.{Exchange, Write}
 
 -- a proof from the front of a list to its end
 pub grown : {X : Type 0} (P : List X → Type 0) → ((xs : List X) (x : X) → P xs → P (xs ++ x ∷ [])) → (xs ys : List X) → P xs → P (xs ++ ys)
@@ -57,55 +58,23 @@ pub record Rounds (b : ℕ) (h : List ℕ) : Type 0 where
   pub apart : (u v : ℕ) → next_phase b h u ≢ 0 → next_phase b h v ≢ 0 → held b h u ≡ held b h v → u ≡ v
   pub stands : (j : ℕ) → j < b → Stands b h j
 
--- what holds of both values holds of the chosen one
-chosen_one : (P : Event → Type 0) (c : Bool) (x y : Event) → P x → P y → P (cond c x y)
-chosen_one P true x y px py = px
-chosen_one P false x y px py = py
-
-pub not_same : (i j : ℕ) → i ≢ j → (i == j) ≡ false
-not_same i j ne = grind (arith, nat_tests)
-
-pub same : (i : ℕ) → (i == i) ≡ true
-same i = eq-eqb i i refl
-
 -- an event of another bucket
 apart-exchange : (b g f j : ℕ) → g ≢ j → is_exchange_of j (event_of b g f) ≡ false
-apart-exchange b g f j ne =
-    let P : Event → Type 0 = λ e. is_exchange_of j e ≡ false in
-    chosen_one P (nat_lt g b) _ _
-    (chosen_one P (f == 0) _ _ refl (chosen_one P (f == 1) _ _ refl (chosen_one P (f == 2) _ _ (not_same g j ne) refl)))
-    (chosen_one P (f == 0) _ _ refl refl)
+apart-exchange b g f j ne = event-by (λ e. is_exchange_of j e ≡ false) b g f
+    (λ g_in phase. refl) (λ g_in phase. refl) (λ g_in phase. unequal g j ne) (λ g_in late. refl) (λ past. refl) (λ past. refl)
 
 apart-write : (b g f j : ℕ) → g ≢ j → is_write_of j (event_of b g f) ≡ false
-apart-write b g f j ne =
-    let P : Event → Type 0 = λ e. is_write_of j e ≡ false in
-    chosen_one P (nat_lt g b) _ _
-    (chosen_one P (f == 0) _ _ refl (chosen_one P (f == 1) _ _ refl (chosen_one P (f == 2) _ _ refl (not_same g j ne))))
-    (chosen_one P (f == 0) _ _ refl refl)
+apart-write b g f j ne = event-by (λ e. is_write_of j e ≡ false) b g f
+    (λ g_in phase. refl) (λ g_in phase. refl) (λ g_in phase. refl) (λ g_in late. unequal g j ne) (λ past. refl) (λ past. refl)
 
 -- an event that begins a round
 start-exchange : (b g j : ℕ) → is_exchange_of j (event_of b g 0) ≡ false
-start-exchange b g j = let P : Event → Type 0 = λ e. is_exchange_of j e ≡ false in chosen_one P (nat_lt g b) _ _ refl refl
+start-exchange b g j = event-by (λ e. is_exchange_of j e ≡ false) b g 0
+    (λ g_in phase. refl) (λ g_in phase. refl) (λ g_in phase. absurd (omega arith)) (λ g_in late. refl) (λ past. refl) (λ past. refl)
 
 start-write : (b g j : ℕ) → is_write_of j (event_of b g 0) ≡ false
-start-write b g j = let P : Event → Type 0 = λ e. is_write_of j e ≡ false in chosen_one P (nat_lt g b) _ _ refl refl
-
--- the events of a round
-pub event-exchange : (b g : ℕ) → g < b → event_of b g 2 ≡ Exchange g
-event-exchange b g g_in = ap (λ y. cond y (Exchange g) Idle) (lt-ltb g b g_in)
-
-pub event-read : (b g : ℕ) → g < b → event_of b g 1 ≡ Read g
-event-read b g g_in = ap (λ y. cond y (Read g) Idle) (lt-ltb g b g_in)
-
-pub event-write : (b g f : ℕ) → g < b → 3 ≤ f → event_of b g f ≡ Write g (f - 3)
-event-write b g f g_in late =
-    let not_claim = not_same f 0 (λ e. omega arith) in
-    let not_read = not_same f 1 (λ e. omega arith) in
-    let not_exchange = not_same f 2 (λ e. omega arith) in
-    ap (λ y. cond y (cond (f == 0) (Claim g) (cond (f == 1) (Read g) (cond (f == 2) (Exchange g) (Write g (f - 3))))) (cond (f == 0) Done Idle)) (lt-ltb g b g_in)
-    ∙ ap (λ y. cond y (Claim g) (cond (f == 1) (Read g) (cond (f == 2) (Exchange g) (Write g (f - 3))))) not_claim
-    ∙ ap (λ y. cond y (Read g) (cond (f == 2) (Exchange g) (Write g (f - 3)))) not_read
-    ∙ ap (λ y. cond y (Exchange g) (Write g (f - 3))) not_exchange
+start-write b g j = event-by (λ e. is_write_of j e ≡ false) b g 0
+    (λ g_in phase. refl) (λ g_in phase. refl) (λ g_in phase. refl) (λ g_in late. absurd (omega arith)) (λ past. refl) (λ past. refl)
 
 -- an event of the bucket itself: the exchange is phase 2, and the writes are those from 3 on
 own-exchange : (b j f : ℕ) → j < b → f ≢ 0 → cond (nat_lt 2 f) 1 0 + cond (is_exchange_of j (event_of b j f)) 1 0 ≡ cond (nat_lt 2 (f + 1)) 1 0
@@ -135,7 +104,7 @@ module _ (b : ℕ) (h : List ℕ) (w : ℕ) where
   own-turns = turns_of-push w h w ∙ ap (λ y. turns_of w h + cond y 1 0) (same w)
 
   pub other-turns : (v : ℕ) → v ≢ w → turns_of v (h ++ w ∷ []) ≡ turns_of v h
-  other-turns v ne = turns_of-push v h w ∙ ap (λ y. turns_of v h + cond y 1 0) (not_same w v (λ e. ne (sym e))) ∙ omega arith
+  other-turns v ne = turns_of-push v h w ∙ ap (λ y. turns_of v h + cond y 1 0) (unequal w v (λ e. ne (sym e))) ∙ omega arith
 
   pub other-phase : (v : ℕ) → v ≢ w → next_phase b (h ++ w ∷ []) v ≡ next_phase b h v
   other-phase v ne = ap (λ y. y % (b + 3)) (other-turns v ne)
@@ -153,7 +122,7 @@ module _ (b : ℕ) (h : List ℕ) (w : ℕ) where
   claims-start start = claims-push b h w ∙ ap (λ y. claims b h + cond y 1 0) (eq-eqb (next_phase b h w) 0 start)
 
   pub claims-inside : next_phase b h w ≢ 0 → claims b (h ++ w ∷ []) ≡ claims b h
-  claims-inside inside = claims-push b h w ∙ ap (λ y. claims b h + cond y 1 0) (not_same (next_phase b h w) 0 inside) ∙ omega arith
+  claims-inside inside = claims-push b h w ∙ ap (λ y. claims b h + cond y 1 0) (unequal (next_phase b h w) 0 inside) ∙ omega arith
 
   pub next-by_phase : next b h w ≡ event_of b (held b h w) (next_phase b h w)
   next-by_phase = ap (event_of b (held b h w)) (phase-next b h w)

@@ -4,11 +4,12 @@ use Rattle.std.specs.List.{count_by, sum_by, All}
 use Rattle.std.specs.Prelude.{nat_lt}
 use Rattle.std.proofs.lemmas.Bool.{lt-ltb}
 use Rattle.std.proofs.lemmas.List.Sums.{sum_by-cons}
+use Rattle.esa_laws.proofs.Tests.{bit}
 use Rattle.esa_params.specs.Sizes.{Sizes, first, size, below}
 use Rattle.esa_laws.proofs.LineLaws.{length-batches}
 use Rattle.esa_laws.proofs.QueueLaws.{batch, leaving-more}
 use Rattle.esa_laws.proofs.Ranges.{sum-below-suc, sum-below-same}
-use Rattle.esa_laws.proofs.Sums.{bit, sum-of-map, sum-of-flat_map}
+use Rattle.esa_laws.proofs.Sums.{sum-of-map, sum-of-flat_map}
 use Rattle.esa_spec.specs.Draws.{Draw, IsDrawn}
 use Rattle.esa_spec.specs.Lines.{batches, chunk}
 use Rattle.esa_spec.specs.Queue.{queue}

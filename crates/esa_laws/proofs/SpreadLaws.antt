@@ -1,7 +1,7 @@
 -- The accesses of an attempt's turns when one more turn is made.
-use Rattle.std.proofs.Common.{◌≡◌, ℕ, zero, suc, ◌<◌, Bool, true, false, cond, List, [], ◌∷◌, ◌++◌, length, refl, sym, ◌∙◌, ap, arith, append_assoc, append-nil}
+use Rattle.std.proofs.Common.{◌≡◌, ℕ, zero, suc, ◌<◌, Bool, true, false, cond, List, [], ◌∷◌, ◌++◌, length, refl, sym, ◌∙◌, ap, arith, append_assoc, append-nil, ◌≤◌}
 use Rattle.std.specs.List.{filter_map, cons_option, find}
-use Rattle.std.specs.Prelude.{Option, Some, None, option_to_list}
+use Rattle.std.specs.Prelude.{Option, Some, None, option_to_list, unwrap_or}
 use Rattle.std.specs.Option.{option_or}
 use Rattle.std.proofs.lemmas.List.Elements.{filter_map-append}
 use Rattle.esa_params.specs.Sizes.{Sizes, below}
@@ -12,7 +12,7 @@ use Rattle.esa_spec.specs.Draws.{Draw}
 use Rattle.esa_spec.specs.Lines.{overflows}
 use Rattle.esa_spec.specs.Traces.{asked, through, made, spread}
 use Rattle.esa_spec.specs.Turns.{events, exchanged, next, order}
-use Rattle.esa_spec.specs.Verdicts.{failing}
+use Rattle.esa_spec.specs.Verdicts.{failing, left, is_left}
 use Rattle.esa_spec.specs.declared.event.Event.{Event}
 use Rattle.esa_spec.specs.declared.event.Event.TheVariants.{Claim, Read, Exchange, Write, Done, Idle}
 
@@ -93,6 +93,11 @@ or-cases f n k None kept e = or-last (f n) refl e
 pub find-below : (f : ℕ → Bool) (n k : ℕ) → find f (below n) ≡ Some k → (k < n) × (f k ≡ true)
 find-below f zero k e = absurd (cc)
 find-below f (suc n) k e = or-cases f n k (find f (below n)) (find-below f n k) (sym (find-below-suc f n) ∙ e)
+
+-- how many tails are written
+pub left-in : (p : Sizes) (d : Draw) (o : List ℕ) (l : Option ℕ) → left p d o ≡ l → unwrap_or l p.b ≤ p.b
+left-in p d o (Some i) e = let found = find-below (is_left p d o) p.b i e in omega (arith, found.0)
+left-in p d o None e = omega arith
 
 pub failing-made : (p : Sizes) (d : Draw) (o : List ℕ) (k : ℕ) → failing p d o ≡ Some k → (k < length o) × (overflows p d o k ≡ true)
 failing-made p d o k e = find-below (overflows p d o) (length o) k e

@@ -1,9 +1,9 @@
 -- Sums over the numbers below n.
-use Rattle.std.proofs.Common.{◌≡◌, ◌≢◌, ℕ, zero, suc, ◌+◌, ◌*◌, ◌≤◌, ◌<◌, ⊎_elim, Bool, false, cond, ◌==◌, refl, ◌∙◌, ap, arith, List, [], ◌∷◌, map, sym}
+use Rattle.std.proofs.Common.{◌≡◌, ℕ, zero, suc, ◌+◌, ◌*◌, ◌≤◌, ◌<◌, ⊎_elim, Bool, cond, ◌==◌, refl, ◌∙◌, ap, arith, List, [], ◌∷◌, map, sym}
 use Rattle.std.specs.List.{sum_by, flat_map}
 use Rattle.std.proofs.lemmas.List.Sums.{sum_by-cons, sum_by-append}
 use Rattle.std.proofs.lemmas.Bool.{cases_lt, eq-eqb}
-use Rattle.std.proofs.lemmas.Bool.Decides.{nat_tests}
+use Rattle.esa_laws.proofs.Tests.{bit, unequal}
 use Rattle.esa_params.specs.Sizes.{below}
 use Rattle.esa_laws.proofs.Ranges.{sum-below-suc, sum-below-same}
 
@@ -37,13 +37,6 @@ sum-below-full f (suc n) m few full x x_in =
 pub sum-below-each : (f : ℕ → ℕ) (n m : ℕ) → ((x : ℕ) → x < n → f x ≡ m) → sum_by f (below n) ≡ n * m
 sum-below-each f zero m each = omega arith
 sum-below-each f (suc n) m each = omega (arith, sum-below-suc f n, sum-below-each f n m (λ x h. each x (omega arith)), each n (omega arith))
-
-unequal : (i j : ℕ) → i ≢ j → (i == j) ≡ false
-unequal i j ne = grind (arith, nat_tests)
-
--- 1 where a test passes, 0 where it doesn't
-abbrev pub bit : Bool → ℕ
-bit c = cond c 1 0
 
 -- one number is hit once
 pub hit-once : (g n : ℕ) → g < n → sum_by (λ j. cond (g == j) 1 0) (below n) ≡ 1

@@ -1,54 +1,44 @@
 -- How many chunks are written and how many buckets are exchanged, bucket by bucket.
-use Rattle.std.proofs.Common.{◌≡◌, ℕ, ◌+◌, ◌-◌, ◌*◌, ◌≤◌, ◌<◌, ⊎_elim, Bool, true, false, cond, ◌==◌, List, [], ◌∷◌, ◌++◌, length, refl, sym, ◌∙◌, ap, subst, arith, length-append}
+use Rattle.std.proofs.Common.{◌≡◌, ℕ, ◌+◌, ◌*◌, ◌≤◌, ◌<◌, Bool, true, false, cond, ◌==◌, List, [], ◌∷◌, ◌++◌, length, refl, sym, ◌∙◌, ap, arith}
 use Rattle.std.specs.List.{count_by, sum_by, filter_map}
 use Rattle.std.specs.List.Sorted.{IsPermutation}
-use Rattle.std.specs.Prelude.{option_to_list}
-use Rattle.std.proofs.lemmas.Bool.{cases_lt, lt-ltb, le-ltb}
-use Rattle.std.proofs.lemmas.List.Sums.{sum_by-cons}
+use Rattle.std.proofs.lemmas.List.Sums.{sum_by-cons, sum_by_push}
+use Rattle.esa_laws.proofs.Tests.{bit}
+use Rattle.esa_laws.proofs.Events.{event-by}
 use Rattle.esa_params.specs.Sizes.{below}
 use Rattle.esa_laws.proofs.Ranges.{sum-below-same}
-use Rattle.esa_laws.proofs.Sums.{sum-below-zero, sum-below-add, sum-below-full, sum-below-each, hit-once, bit}
-use Rattle.esa_laws.proofs.RoundLaws.{by_pushes, is_exchange_of, is_write_of, exchanges_of, writes_of, writes_of-push, writes_of-le, exchanges-push, exchanges_of-le, all-written, Written, next-by_phase}
+use Rattle.esa_laws.proofs.Sums.{sum-below-zero, sum-below-add, sum-below-full, sum-below-each, hit-once}
+use Rattle.esa_laws.proofs.RoundLaws.{by_pushes, is_exchange_of, is_write_of, exchanges_of, writes_of, writes_of-le, exchanges_of-le, all-written, Written, next-by_phase}
 use Rattle.esa_laws.proofs.PermLaws.{permutes}
-use Rattle.esa_laws.proofs.TurnLaws.{writes-push, order-push}
+use Rattle.esa_laws.proofs.TurnLaws.{events-push}
 use Rattle.esa_spec.specs.Turns.{event_of, events, next, next_phase, held, exchanged, order, is_write, writes}
 use Rattle.esa_spec.specs.declared.event.Event.{Event}
 use Rattle.esa_spec.specs.declared.event.Event.TheVariants.{Claim, Read, Exchange, Write, Done, Idle}
 
--- an event writes a chunk of one bucket or of none
-abbrev Spread : ℕ → Event → Type 0
-Spread b e = sum_by (λ j. cond (is_write_of j e) 1 0) (below b) ≡ cond (is_write e) 1 0
+-- an event is of one bucket or of none, so that a count over all is the sum of the counts over the buckets
+pub by_buckets : (test : Event → Bool) (test_of : ℕ → Event → Bool) (b : ℕ)
+    → ((g f : ℕ) → sum_by (λ j. bit (test_of j (event_of b g f))) (below b) ≡ bit (test (event_of b g f)))
+    → (h : List ℕ) → count_by test (events b h) ≡ sum_by (λ j. count_by (test_of j) (events b h)) (below b)
+by_buckets test test_of b one = by_pushes (λ h. count_by test (events b h) ≡ sum_by (λ j. count_by (test_of j) (events b h)) (below b))
+    (sym (sum-below-zero (λ j. count_by (test_of j) []) b (λ x x_in. refl)))
+    (λ h w before.
+    let e = event_of b (held b h w) (next_phase b h w) in
+    let hit = λ (j : ℕ). bit (test_of j e) in
+    let push : (t : Event → Bool) → count_by t (events b (h ++ w ∷ [])) ≡ count_by t (events b h) + bit (t e) =
+    λ t. ap (count_by t) (events-push b h w) ∙ sum_by_push (λ e. bit (t e)) (events b h) (next b h w) ∙ ap (λ y. count_by t (events b h) + bit (t y)) (next-by_phase b h w) in
+    push test ∙ ap (λ y. y + bit (test e)) before
+    ∙ sym (sum-below-same (λ j. count_by (test_of j) (events b (h ++ w ∷ []))) (λ j. count_by (test_of j) (events b h) + hit j) b (λ j j_in. push (test_of j))
+    ∙ sum-below-add (λ j. count_by (test_of j) (events b h)) hit b
+    ∙ ap (λ y. sum_by (λ j. count_by (test_of j) (events b h)) (below b) + y) (one (held b h w) (next_phase b h w))))
 
-either : (b : ℕ) (c : Bool) (x y : Event) → Spread b x → Spread b y → Spread b (cond c x y)
-either b true x y px py = px
-either b false x y px py = py
-
-none : (b : ℕ) → sum_by (λ (j : ℕ). 0) (below b) ≡ 0
-none b = sum-below-zero (λ j. 0) b (λ x h. refl)
-
-spread-one : (b g f : ℕ) → Spread b (event_of b g f)
-spread-one b g f = ⊎_elim
-    (λ (g_in : g < b).
-    subst (λ c. Spread b (cond c (cond (f == 0) (Claim g) (cond (f == 1) (Read g) (cond (f == 2) (Exchange g) (Write g (f - 3))))) (cond (f == 0) Done Idle)))
-    (sym (lt-ltb g b g_in))
-    (either b (f == 0) (Claim g) _ (none b) (either b (f == 1) (Read g) _ (none b) (either b (f == 2) (Exchange g) (Write g (f - 3)) (none b) (hit-once g b g_in)))))
-    (λ (past : b ≤ g).
-    subst (λ c. Spread b (cond c (cond (f == 0) (Claim g) (cond (f == 1) (Read g) (cond (f == 2) (Exchange g) (Write g (f - 3))))) (cond (f == 0) Done Idle)))
-    (sym (le-ltb g b past))
-    (either b (f == 0) Done Idle (none b) (none b)))
-    (cases_lt g b)
+pub zeros : (b : ℕ) → sum_by (λ (j : ℕ). 0) (below b) ≡ 0
+zeros b = sum-below-zero (λ j. 0) b (λ x h. refl)
 
 -- the chunks written are those of the buckets
 pub total-writes : (b : ℕ) (h : List ℕ) → writes b h ≡ sum_by (writes_of b h) (below b)
-total-writes b h = by_pushes (λ h. writes b h ≡ sum_by (writes_of b h) (below b)) (sym (sum-below-zero (writes_of b []) b (λ x x_in. refl)))
-    (λ h w before.
-    let e = event_of b (held b h w) (next_phase b h w) in
-    let hit = λ (j : ℕ). cond (is_write_of j e) 1 0 in
-    let one : writes b (h ++ w ∷ []) ≡ writes b h + cond (is_write e) 1 0 = writes-push b h w ∙ ap (λ y. writes b h + cond (is_write y) 1 0) (next-by_phase b h w) in
-    let each : sum_by (writes_of b (h ++ w ∷ [])) (below b) ≡ sum_by (λ j. writes_of b h j + hit j) (below b) =
-    sum-below-same (writes_of b (h ++ w ∷ [])) (λ j. writes_of b h j + hit j) b (λ j j_in. writes_of-push b h w j) in
-    one ∙ ap (λ y. y + cond (is_write e) 1 0) before
-    ∙ sym (each ∙ sum-below-add (writes_of b h) hit b ∙ ap (λ y. sum_by (writes_of b h) (below b) + y) (spread-one b (held b h w) (next_phase b h w))))
+total-writes b h = by_buckets is_write is_write_of b
+    (λ g f. event-by (λ e. sum_by (λ j. bit (is_write_of j e)) (below b) ≡ bit (is_write e)) b g f
+    (λ g_in phase. zeros b) (λ g_in phase. zeros b) (λ g_in phase. zeros b) (λ g_in late. hit-once g b g_in) (λ past. zeros b) (λ past. zeros b))
     h
 
 -- where all chunks are written, each bucket has written all of its own
@@ -81,38 +71,24 @@ exchanges-in_order b h j = count-exchanged (events b h) j
 pub once : (b : ℕ) (h : List ℕ) (j : ℕ) → writes b h ≡ b * b → j < b → count_by (λ i. i == j) (order b h) ≡ 1
 once b h j all j_in = exchanges-in_order b h j ∙ (each-written b h all j j_in).exchanged
 
--- an event exchanges one bucket or none
-abbrev Exchanges : ℕ → Event → Type 0
-Exchanges b e = sum_by (λ j. bit (is_exchange_of j e)) (below b) ≡ length (option_to_list (exchanged e))
+-- the buckets exchanged are those of the events
+abbrev is_exchange : Event → Bool
+is_exchange (Exchange j) = true
+is_exchange _ = false
 
-one-of : (b : ℕ) (c : Bool) (x y : Event) → Exchanges b x → Exchanges b y → Exchanges b (cond c x y)
-one-of b true x y px py = px
-one-of b false x y px py = py
-
-exchange-one : (b g f : ℕ) → Exchanges b (event_of b g f)
-exchange-one b g f = ⊎_elim
-    (λ (g_in : g < b).
-    subst (λ c. Exchanges b (cond c (cond (f == 0) (Claim g) (cond (f == 1) (Read g) (cond (f == 2) (Exchange g) (Write g (f - 3))))) (cond (f == 0) Done Idle)))
-    (sym (lt-ltb g b g_in))
-    (one-of b (f == 0) (Claim g) _ (none b) (one-of b (f == 1) (Read g) _ (none b) (one-of b (f == 2) (Exchange g) (Write g (f - 3)) (hit-once g b g_in) (none b)))))
-    (λ (past : b ≤ g).
-    subst (λ c. Exchanges b (cond c (cond (f == 0) (Claim g) (cond (f == 1) (Read g) (cond (f == 2) (Exchange g) (Write g (f - 3))))) (cond (f == 0) Done Idle)))
-    (sym (le-ltb g b past))
-    (one-of b (f == 0) Done Idle (none b) (none b)))
-    (cases_lt g b)
+exchanges-count : (es : List Event) → length (filter_map exchanged es) ≡ count_by is_exchange es
+exchanges-count [] = refl
+exchanges-count (Claim j ∷ es) = exchanges-count es ∙ sym (passed (λ e. bit (is_exchange e)) (Claim j) es refl)
+exchanges-count (Read j ∷ es) = exchanges-count es ∙ sym (passed (λ e. bit (is_exchange e)) (Read j) es refl)
+exchanges-count (Exchange j ∷ es) = omega (arith, exchanges-count es, sum_by-cons (λ e. bit (is_exchange e)) (Exchange j) es)
+exchanges-count (Write j i ∷ es) = exchanges-count es ∙ sym (passed (λ e. bit (is_exchange e)) (Write j i) es refl)
+exchanges-count (Done ∷ es) = exchanges-count es ∙ sym (passed (λ e. bit (is_exchange e)) Done es refl)
+exchanges-count (Idle ∷ es) = exchanges-count es ∙ sym (passed (λ e. bit (is_exchange e)) Idle es refl)
 
 pub total-exchanges : (b : ℕ) (h : List ℕ) → length (order b h) ≡ sum_by (exchanges_of b h) (below b)
-total-exchanges b h = by_pushes (λ h. length (order b h) ≡ sum_by (exchanges_of b h) (below b)) (sym (sum-below-zero (exchanges_of b []) b (λ x x_in. refl)))
-    (λ h w before.
-    let e = event_of b (held b h w) (next_phase b h w) in
-    let hit = λ (j : ℕ). bit (is_exchange_of j e) in
-    let one : length (order b (h ++ w ∷ [])) ≡ length (order b h) + length (option_to_list (exchanged e)) =
-    ap length (order-push b h w) ∙ length-append (order b h) (option_to_list (exchanged (next b h w)))
-    ∙ ap (λ y. length (order b h) + length (option_to_list (exchanged y))) (next-by_phase b h w) in
-    let each : sum_by (exchanges_of b (h ++ w ∷ [])) (below b) ≡ sum_by (λ j. exchanges_of b h j + hit j) (below b) =
-    sum-below-same (exchanges_of b (h ++ w ∷ [])) (λ j. exchanges_of b h j + hit j) b (λ j j_in. exchanges-push b h w j) in
-    one ∙ ap (λ y. y + length (option_to_list (exchanged e))) before
-    ∙ sym (each ∙ sum-below-add (exchanges_of b h) hit b ∙ ap (λ y. sum_by (exchanges_of b h) (below b) + y) (exchange-one b (held b h w) (next_phase b h w))))
+total-exchanges b h = exchanges-count (events b h) ∙ by_buckets is_exchange is_exchange_of b
+    (λ g f. event-by (λ e. sum_by (λ j. bit (is_exchange_of j e)) (below b) ≡ bit (is_exchange e)) b g f
+    (λ g_in phase. zeros b) (λ g_in phase. zeros b) (λ g_in phase. hit-once g b g_in) (λ g_in late. zeros b) (λ past. zeros b) (λ past. zeros b))
     h
 
 pub all-exchanged : (b : ℕ) (h : List ℕ) → writes b h ≡ b * b → length (order b h) ≡ b

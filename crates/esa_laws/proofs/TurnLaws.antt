@@ -3,10 +3,10 @@ use Rattle.std.proofs.Common.{◌≡◌, ◌≢◌, ℕ, zero, suc, ◌+◌, ◌
 use Rattle.std.specs.List.{count_by, filter_map, cons_option}
 use Rattle.std.specs.Prelude.{Option, Some, None, slice_index, option_to_list}
 use Rattle.std.proofs.lemmas.Bool.{cases_lt, eq-eqb}
-use Rattle.std.proofs.lemmas.Bool.Decides.{nat_tests}
 use Rattle.std.proofs.lemmas.List.{take-append-le, get_or_append_left, get_or_at, take_at, length_push}
 use Rattle.std.proofs.lemmas.List.Elements.{filter_map-append}
 use Rattle.std.proofs.lemmas.List.Sums.{sum_by_push}
+use Rattle.esa_laws.proofs.Tests.{unequal}
 use Rattle.esa_params.specs.Sizes.{below}
 use Rattle.esa_laws.proofs.Ranges.{map-below-suc, map-below-same, count-below-suc, count-below-same}
 use Rattle.esa_spec.specs.Turns.{turns_of, phase, is_claim, last_such, is_own_claim, claim, bucket, event_of, event_at, events, next, next_phase, claims, held, acted, exchanged, order, is_write, writes}
@@ -118,9 +118,6 @@ module _ (b : ℕ) (h : List ℕ) (w : ℕ) where
       ap (λ y. count_by (is_claim b (h ++ w ∷ [])) (below y)) (last_such-at (is_own_claim b (h ++ w ∷ []) (length h)) (length h) own)
       ∙ claims_below-append b h (w ∷ []) (length h) (omega arith)
 
-differ : (v w : ℕ) → v ≢ w → (w == v) ≡ false
-differ v w ne = grind (arith, nat_tests)
-
 -- within a round the bucket stays
 module _ (b : ℕ) (h : List ℕ) (w : ℕ) where
   longer : length (h ++ w ∷ []) ≡ suc (length h)
@@ -130,7 +127,7 @@ module _ (b : ℕ) (h : List ℕ) (w : ℕ) where
   no-claim : (v : ℕ) → next_phase b h v ≢ 0 → is_own_claim b (h ++ v ∷ []) (length h) (length h) ≡ false
   no-claim v inside =
       let same : (slice_index (h ++ v ∷ []) (length h) == slice_index (h ++ v ∷ []) (length h)) ≡ true = eq-eqb _ _ refl in
-      let not_start : is_claim b (h ++ v ∷ []) (length h) ≡ false = ap (λ y. y == 0) (phase-next b h v) ∙ differ 0 (next_phase b h v) (λ e. inside (sym e)) in
+      let not_start : is_claim b (h ++ v ∷ []) (length h) ≡ false = ap (λ y. y == 0) (phase-next b h v) ∙ unequal (next_phase b h v) 0 inside in
       ap (λ y. y && is_claim b (h ++ v ∷ []) (length h)) same ∙ not_start
 
 -- the next turn of the same worker
@@ -162,12 +159,12 @@ held-other b h v w ne inside =
     let now = is_own_claim b h'' (length h') in
     let then = is_own_claim b hv n in
     let phase_stays : next_phase b h' v ≡ next_phase b h v =
-    ap (λ y. y % (b + 3)) (turns_of-push v h w ∙ ap (λ y. turns_of v h + cond y 1 0) (differ v w ne) ∙ omega arith) in
+    ap (λ y. y % (b + 3)) (turns_of-push v h w ∙ ap (λ y. turns_of v h + cond y 1 0) (unequal w v (λ e. ne (sym e))) ∙ omega arith) in
     let not_now : now (suc n) ≡ false = ap now (sym (longer b h w)) ∙ no-claim b h' w v (λ e. inside (sym phase_stays ∙ e)) in
     let here : n < length h' = omega (arith, longer b h w) in
     let other : (slice_index h'' n == slice_index h'' (length h')) ≡ false =
     ap (λ u. u == slice_index h'' (length h')) (worker-append b h' (v ∷ []) n here ∙ last-worker b h w)
-    ∙ ap (λ u. w == u) (last-worker b h' v) ∙ differ v w ne in
+    ∙ ap (λ u. w == u) (last-worker b h' v) ∙ unequal w v (λ e. ne (sym e)) in
     let not_here : now n ≡ false = ap (λ u. u && is_claim b h'' n) other in
     let same = λ (y : ℕ) (y_in : y < n).
     let y_short : y < length h' = omega (arith, longer b h w) in
@@ -191,7 +188,7 @@ next-is b h w =
     let by_phase : next b h w ≡ event_of b (held b h w) (next_phase b h w) = ap (event_of b (held b h w)) (phase-next b h w) in
     ⊎_elim
     (λ (inside : 0 < next_phase b h w).
-    let no : (next_phase b h w == 0) ≡ false = differ 0 (next_phase b h w) (λ e. omega arith) in
+    let no : (next_phase b h w == 0) ≡ false = unequal (next_phase b h w) 0 (λ e. absurd (omega arith)) in
     by_phase ∙ sym (ap (λ y. cond y (event_of b (claims b h) 0) (event_of b (held b h w) (next_phase b h w))) no))
     (λ (start : next_phase b h w ≤ 0).
     let zero_is : next_phase b h w ≡ 0 = omega arith in

@@ -5,9 +5,9 @@ use Rattle.std.specs.Prelude.{Option, Some, None, nat_lt}
 use Rattle.std.proofs.lemmas.Bool.Decides.{nat_tests}
 use Rattle.std.proofs.lemmas.List.{map-append}
 use Rattle.std.proofs.lemmas.List.Sums.{sum_by-cons}
+use Rattle.esa_laws.proofs.Tests.{bit}
 use Rattle.esa_params.specs.Sizes.{Sizes}
 use Rattle.esa_params.specs.declared.slot.Access.{Access}
-use Rattle.esa_laws.proofs.Sums.{bit}
 use Rattle.esa_spec.specs.Draws.{Draw}
 use Rattle.esa_spec.specs.Traces.{step_accesses, walk, attempt_trace, is_failed, all_failed, attempts, good_attempt}
 use Rattle.esa_spec.specs.Verdicts.{Step, step_verdict, is_good, first_bad, is_below, targets, reached, is_finished, verdict}
