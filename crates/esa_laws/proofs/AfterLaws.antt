@@ -1,5 +1,5 @@
 -- Turns that are made after an attempt is finished change nothing.
-use Rattle.std.proofs.Common.{◌≡◌, ◌≢◌, ℕ, zero, suc, ◌+◌, ◌*◌, ◌≤◌, ◌<◌, ⊎_elim, true, false, cond, ◌||◌, ◌==◌, List, [], ◌∷◌, ◌++◌, length, drop, refl, sym, ◌∙◌, ap, subst, arith, append-nil}
+use Rattle.std.proofs.Common.{◌≡◌, ◌≢◌, ℕ, zero, suc, ◌+◌, ◌*◌, ◌≤◌, ◌<◌, ⊎_elim, true, false, cond, ◌||◌, ◌==◌, List, [], ◌∷◌, ◌++◌, length, drop, refl, sym, ◌∙◌, ap, subst, arith, append-nil, append_assoc}
 use Rattle.std.specs.Prelude.{Option, Some, None, is_some, slice_index, option_to_list}
 use Rattle.std.proofs.lemmas.Bool.{cases_lt, cases_eq}
 use Rattle.std.proofs.lemmas.List.{get_or_append_left, take-append-drop}
@@ -7,6 +7,7 @@ use Rattle.std.specs.List.{flat_map}
 use Rattle.esa_laws.proofs.Events.{event-by}
 use Rattle.esa_laws.proofs.Tests.{equal}
 use Rattle.esa_params.specs.Sizes.{Sizes, below}
+use Rattle.esa_params.specs.declared.slot.Access.{Access}
 use Rattle.esa_laws.proofs.FinishLaws.{finished-where, prefix, prefix-finished}
 use Rattle.esa_laws.proofs.RoundLaws.{grown, next-by_phase}
 use Rattle.esa_laws.proofs.SpreadLaws.{failing-made, failing-stays, spread-push, spread-stays}
@@ -150,3 +151,24 @@ module _ (p : Sizes) (d : Draw) (h : List ℕ) (finished : is_finished p d h ≡
       let m = length (full p d h) in
       let whole : full p d h ++ drop m h ≡ h = ap (λ y. y ++ drop m h) (prefix p d h finished) ∙ take-append-drop m h in
       subst (Keeps p d a (full p d h)) whole (keeps p d a (full p d h) (drop m h) (prefix-finished p d h finished))
+
+-- the accesses of more turns go on with those of fewer
+record Goes_on (xs ys : List Access) : Type 0 where
+  rest_of : List Access
+  is : ys ≡ xs ++ rest_of
+
+goes-by : (p : Sizes) (d : Draw) (a : ℕ) (g h : List ℕ) (w : ℕ) (f : Option ℕ) → failing p d (order p.b h) ≡ f
+    → Goes_on (spread p d a g) (spread p d a h) → Goes_on (spread p d a g) (spread p d a (h ++ w ∷ []))
+goes-by p d a g h w (Some k) fails s = record { rest_of = s.rest_of; is = spread-stays p d a h w k fails ∙ s.is }
+goes-by p d a g h w None ok s =
+    let one = option_to_list (asked p a (next p.b h w)) in
+    record {
+      rest_of = s.rest_of ++ one;
+      is = spread-push p d a h w ok ∙ ap (λ y. y ++ one) s.is ∙ append_assoc (spread p d a g) s.rest_of one;
+    }
+
+pub spread-begins : (p : Sizes) (d : Draw) (a : ℕ) (g more : List ℕ) → (others : List Access) × (spread p d a (g ++ more) ≡ spread p d a g ++ others)
+spread-begins p d a g more =
+    let s = grown (λ h. Goes_on (spread p d a g) (spread p d a h)) (λ h w s. goes-by p d a g h w (failing p d (order p.b h)) refl s) g more
+    (record { rest_of = []; is = sym (append-nil (spread p d a g)) }) in
+    (s.rest_of, s.is)

@@ -21,3 +21,4 @@ pub mod TotalLaws
 pub mod TurnLaws
 pub mod VerdictLaws
 pub mod WalkLaws
+pub mod WindowLaws

@@ -18,3 +18,4 @@ pub mod rounds;
 pub mod sizes;
 pub mod spreads;
 pub mod turns;
+pub mod windows;

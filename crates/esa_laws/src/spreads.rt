@@ -2,6 +2,7 @@
 
 ghost use Rattle.std.specs.Prelude.{◌≡◌, ℕ, ◌<◌, true, false, None, List, [], ◌∷◌, ◌++◌, length, option_to_list};
 ghost use Rattle.esa_params.specs.Sizes.{Sizes};
+ghost use Rattle.esa_params.specs.declared.slot.Access.{Access};
 ghost use Rattle.esa_spec.specs.Draws.{Draw};
 ghost use Rattle.esa_spec.specs.Lines.{overflows};
 ghost use Rattle.esa_spec.specs.Traces.{asked, spread};
@@ -35,4 +36,10 @@ pub fn one_turn_fails()
         → overflows p d (order p.b h ++ j ∷ []) (length (order p.b h)) ≡ true → is_finished p d (h ++ w ∷ []) ≡ true }
     ensures overflow { (p : Sizes) (d : Draw) (h : List ℕ) (w j : ℕ) → failing p d (order p.b h) ≡ None → exchanged (next p.b h w) ≡ Some j
         → overflows p d (order p.b h ++ j ∷ []) (length (order p.b h)) ≡ true → verdict p d (h ++ w ∷ []) ≡ StashOverflow j }
+{}
+
+/// The accesses of more turns begin with those of fewer.
+pub fn turns_only_add()
+    ensures { (p : Sizes) (d : Draw) (a : ℕ) (h more : List ℕ)
+        → (others : List Access) × (spread p d a (h ++ more) ≡ spread p d a h ++ others) }
 {}

@@ -1,7 +1,7 @@
 -- The order in which the records come out.
-use Rattle.std.specs.Prelude.{ℕ, ◌-◌, ◌==◌, Option, Some, None, unwrap_or, List, ◌++◌, length, map, replicate, flat_map, filter_map, slice_get}
+use Rattle.std.specs.Prelude.{ℕ, ◌+◌, ◌-◌, ◌==◌, Option, Some, None, unwrap_or, List, ◌++◌, length, drop, map, replicate, flat_map, filter_map, slice_get, slice_range}
 use Rattle.std.specs.List.{position_or_len}
-use Rattle.esa_params.specs.Sizes.{Sizes, below}
+use Rattle.esa_params.specs.Sizes.{Sizes, first, below}
 use Rattle.esa_spec.specs.Draws.{Draw}
 use Rattle.esa_spec.specs.Lines.{chunk, tail}
 use Rattle.esa_spec.specs.Turns.{order}
@@ -33,3 +33,11 @@ arranged p d o i = filter_map (entry (imports p d o i)) (d.order i)
 -- the places of all records, in the order in which they come out
 abbrev pub places : Sizes → Draw → List ℕ → List ℕ
 places p d h = flat_map (arranged p d (order p.b h)) (below p.b)
+
+-- the places in the window's queue where i intermediate buckets are imported and j output buckets are written
+abbrev pub window : Sizes → Draw → List ℕ → ℕ → ℕ → List ℕ
+window p d o j i = drop (first p j) (flat_map (arranged p d o) (below i))
+
+-- the places of output bucket j
+abbrev pub output_places : Sizes → Draw → List ℕ → ℕ → List ℕ
+output_places p d h j = slice_range (places p d h) (first p j) (first p (j + 1))
