@@ -7,10 +7,12 @@ use Rattle.esa_params.specs.declared.slot.Op.{Op}
 use Rattle.esa_params.specs.declared.slot.Op.TheVariants.{Read, Write}
 use Rattle.esa_params.specs.declared.slot.Access.{Access}
 
+-- a read is 0 and a write is 1
 abbrev pub op_code : Op → ℕ
 op_code Read = 0
 op_code Write = 1
 
+-- the regions by number
 abbrev pub region_code : Region → ℕ
 region_code Input = 0
 region_code Mid = 1

@@ -39,17 +39,19 @@ made (Some k) es = through k es
 abbrev pub spread : Sizes → Draw → ℕ → List ℕ → List Access
 spread p d a h = filter_map (asked p a) (made (failing p d (order p.b h)) (events p.b h))
 
--- the accesses before the first attempt: each block of the input is written
+-- the write of the block of bucket j, before the first attempt
 abbrev pub written_input : Sizes → ℕ → Access
 written_input p j = access_of p 0 Writes (at Input j)
 
+-- the accesses before the first attempt: each block of the input is written
 abbrev pub load : Sizes → List Access
 load p = map (written_input p) (below p.b)
 
--- the reads of an import: the chunks for the target i by the number of their bucket, and its tail
+-- the read of the chunk of bucket j for the target i
 abbrev pub read_chunk : Sizes → ℕ → ℕ → ℕ → Access
 read_chunk p a i j = access_of p a Reads (chunk_slot p j i)
 
+-- the reads of an import: the chunks for the target i by the number of their bucket, and its tail
 abbrev pub import_reads : Sizes → ℕ → ℕ → List Access
 import_reads p a i = map (read_chunk p a i) (below p.b) ++ access_of p a Reads (at Tail i) ∷ []
 
@@ -68,10 +70,11 @@ abbrev pub compression : Sizes → Draw → ℕ → Option ℕ → List Access
 compression p d a (Some i) = []
 compression p d a None = walk p d a (steps p)
 
--- the tails are written up to the one before the first that doesn't hold what is left
+-- the write of the tail of the target i
 abbrev pub written_tail : Sizes → ℕ → ℕ → Access
 written_tail p a i = access_of p a Writes (at Tail i)
 
+-- the tails are written, up to the one before the first that doesn't hold what is left, and the compression follows
 abbrev pub drain : Sizes → Draw → ℕ → Option ℕ → List Access
 drain p d a l = map (written_tail p a) (below (unwrap_or l p.b)) ++ compression p d a l
 
@@ -102,10 +105,11 @@ attempts p ds a (h ∷ hs) = attempt_trace p (ds a) a h ++ (if is_failed p (ds a
 abbrev pub shuffle_trace : Sizes → (ℕ → Draw) → List (List ℕ) → List Access
 shuffle_trace p ds hs = load p ++ attempts p ds 0 hs
 
--- a scan reads the output of attempt a
+-- the read of output bucket j of attempt a
 abbrev pub read_output : Sizes → ℕ → ℕ → Access
 read_output p a j = access_of p a Reads (at Output j)
 
+-- a scan reads the whole output of attempt a
 abbrev pub scan : Sizes → ℕ → List Access
 scan p a = map (read_output p a) (below p.b)
 
@@ -124,7 +128,7 @@ scans p (Some a) = scan p a ++ scan p a
 abbrev pub trace : Sizes → (ℕ → Draw) → List (List ℕ) → List Access
 trace p ds hs = shuffle_trace p ds hs ++ scans p (good_attempt p ds 0 hs)
 
--- an operation that writes leaves its nonce
+-- the nonce that an operation writes
 abbrev pub nonce_by : Op → ℕ → Option ℕ
 nonce_by Reads nonce = None
 nonce_by Writes nonce = Some nonce

@@ -82,6 +82,7 @@ exchanged _ = None
 abbrev pub order : ℕ → List ℕ → List ℕ
 order b h = filter_map exchanged (events b h)
 
+-- an event writes a chunk
 abbrev pub is_write : Event → Bool
 is_write (Write j i) = true
 is_write _ = false

@@ -46,6 +46,7 @@ steps_of p j = map (Import j) (range_with_len (imported p j) (imported p (suc j)
 abbrev pub steps : Sizes → List Step
 steps p = flat_map (steps_of p) (below p.b)
 
+-- a target is below i
 abbrev pub is_below : ℕ → ℕ → Bool
 is_below i target = nat_lt target i
 
@@ -62,6 +63,7 @@ abbrev pub step_verdict : Sizes → Draw → Step → Verdict
 step_verdict p d (Import j i) = if nat_lt (first p j + p.q) (reached p d (i + 1)) then QueueOverflow i else Good
 step_verdict p d (Put j) = if nat_lt (reached p d (imported p (suc j))) (first p (j + 1)) then QueueStarved j else Good
 
+-- the verdict is Good
 abbrev pub is_good : Verdict → Bool
 is_good Good = true
 is_good _ = false
