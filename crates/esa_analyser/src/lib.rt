@@ -14,3 +14,4 @@ mod write;
 pub use analysis::Analysis;
 pub use db::{Db, read_db};
 pub use refused::DbRefused;
+pub use write::write_db;

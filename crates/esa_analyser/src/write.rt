@@ -52,3 +52,19 @@ fn write_file<K: Cabinet>(form: Form, db: &Db, cabinet: &mut K, name: &str) -> R
     put_rows(db, &mut page, cabinet, name)?;
     page.finish(cabinet, name)
 }
+
+/// Writes a database as a file of the form's version, whatever file it was read from. The file starts
+/// anew. It takes no memory.
+pub fn write_db<K: Cabinet>(form: Form, db: &Db, cabinet: &mut K, name: &str) -> Result<(), Failed>
+    requires { All (λ row. length row.0 ≤ longest form) db.now.database.rows }
+    ensures written { (files : Files) → K.told cabinet.old ≡ Some files
+        → OnOk result (K.told cabinet.new ≡ Some (map.insert files name.now (database_bytes form db.now.database))) }
+
+    // A failed call leaves the file as it was, or a front of the whole file.
+    ensures failed { (files : Files) → K.told cabinet.old ≡ Some files
+        → OnErr result ((K.told cabinet.new ≡ Some files) ⊎ HoldsFront files name.now (database_bytes form db.now.database) (K.told cabinet.new)) }
+    ensures silent { K.told cabinet.old ≡ None → K.told cabinet.new ≡ None }
+    ensures cause { HasCause (K.faults cabinet.old) (K.faults cabinet.new) ⊥ result }
+{
+    write_file(form, db, cabinet, name)
+}
