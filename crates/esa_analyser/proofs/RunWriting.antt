@@ -79,7 +79,3 @@ OnErr-left result before name text now left files told = on_err_weaker result (�
 pub silent-still : {T E : Type 0} (result : Result T E) (before : Option Files) (name text : List ℕ) (now : Option Files) → OnOk result (IsWhole before name text now) → OnErr result (IsLeft before name text now) → before ≡ None → now ≡ None
 silent-still (Ok _) before name text now whole left none = subst (λ b. IsWhole b name text now) none whole
 silent-still (Err _) before name text now whole left none = subst (λ b. IsLeft b name text now) none left
-
-pub short_values : (form : Form) (rows : List (List ℕ × ℕ)) → All (λ row. length row.0 ≤ longest form) rows → All (λ row. length row.0 ≤ 190) rows
-short_values One rows short = λ k d below. let here = short k d below in omega arith
-short_values Two rows short = short

@@ -23,7 +23,6 @@ fn put_rows<K: Cabinet>(
     cabinet: &mut K,
     name: &str,
 ) -> Result<(), Failed>
-    requires { All (λ row. length row.0 ≤ 190) db.now.database.rows }
     ensures added { (before : Option Files) (text : List ℕ)
         → IsUnderway before name.now text page.old (K.told cabinet.old)
         → OnOk result (IsUnderway before name.now (text ++ flat_map row_bytes db.now.database.rows) page.new (K.told cabinet.new)) }
@@ -42,7 +41,6 @@ fn put_rows<K: Cabinet>(
 
 /// Writes the whole file. It starts anew.
 fn write_file<K: Cabinet>(form: Form, db: &Db, cabinet: &mut K, name: &str) -> Result<(), Failed>
-    requires { All (λ row. length row.0 ≤ 190) db.now.database.rows }
     ensures whole { OnOk result (IsWhole (K.told cabinet.old) name.now (database_bytes form db.now.database) (K.told cabinet.new)) }
     ensures left { OnErr result (IsLeft (K.told cabinet.old) name.now (database_bytes form db.now.database) (K.told cabinet.new)) }
     ensures cause { HasCause (K.faults cabinet.old) (K.faults cabinet.new) ⊥ result }

@@ -19,7 +19,7 @@ loop-row-preserved g c =
     let done = c.loop-row.invariant.0 in
     let row = row_bytes (c.value.result.now, c.count.result) in
     (done ++ row,
-      row_step _ c.args.db.now.database.rows c.loop-row.row c.value.result.now c.count.result done c.loop-row.invariant.1 (rw (← c.rows-row-end.ensures) c.loop-row-test.true) c.value.ensures c.count.ensures,
+      row_step _ c.args.db.now.database.rows c.loop-row.row c.value.result.now c.count.result done c.loop-row.invariant.1 (rw (← c.rows-row-end.ensures) c.loop-row-test.true) c.value.ensures.value c.count.ensures,
       λ before text under.
         let so_far = c.loop-row.invariant.2 before text under in
         (underway_more before c.args.name.now text done row c.put_row.new.page (g.K.Cabinet.told c.put_row.new.cabinet) (c.in_ok-put_row.ensures.added before (text ++ done) so_far.0),

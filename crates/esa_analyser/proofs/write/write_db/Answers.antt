@@ -1,9 +1,6 @@
 use Rattle.esa_analyser.specs.Rows.{database_bytes}
-use Rattle.esa_analyser.proofs.RunWriting.{short_values, OnOk-whole, OnErr-left, silent-still}
+use Rattle.esa_analyser.proofs.RunWriting.{OnOk-whole, OnErr-left, silent-still}
 use Rattle.esa_analyser.proofs.write.write_db.Goals as goal
-
-pub write_file-requires : goal.write_file-requires
-write_file-requires g c = short_values c.args.form c.args.db.now.database.rows c.requires
 
 pub returns-clause-written : goal.returns-clause-written
 returns-clause-written g c = OnOk-whole c.write_file.result (g.K.Cabinet.told c.args.cabinet.now) c.args.name.now (database_bytes c.args.form c.args.db.now.database) (g.K.Cabinet.told c.write_file.new.cabinet) c.write_file.ensures.whole
