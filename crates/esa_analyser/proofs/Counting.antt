@@ -42,6 +42,7 @@ IsCounted-empty kept room none capacity = record {
   };
   rows = sym (ap (λ keys. length (rows_of (map key_value keys))) none ∙ ap length rows_of-nil);
   few = omega (arith, ap length none);
+  small = omega arith;
   within = omega arith;
   room = omega arith;
 }

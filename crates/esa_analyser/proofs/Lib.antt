@@ -7,3 +7,5 @@ pub mod RowWriting
 pub mod DbLaws
 pub mod Counting
 pub mod RunWriting
+pub mod KeptWriting
+pub mod Printing

@@ -18,5 +18,6 @@ pub record IsCounted (a : Inside) : Type 0 where
   pub sorted : AreSorted a.kept
   pub rows : a.rows ≡ length (rows_of (values_of a.kept))
   pub few : length (keys_of a.kept) ≤ a.total
+  pub small : a.total < 2 ^ 32
   pub within : a.total ≤ a.room
   pub room : a.room ≤ capacity_of a.kept

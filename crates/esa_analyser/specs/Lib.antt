@@ -6,6 +6,8 @@ pub mod Opened
 pub mod SortKey
 pub mod RunBytes
 pub mod Kept
+pub mod KeptBytes
+pub mod Histogram
 pub mod Counted
 pub mod Inside
 pub use Rattle.esa_params.specs.Form

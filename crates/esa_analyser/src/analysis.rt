@@ -1,14 +1,20 @@
 //! Counting the reports of a list of envelopes.
 
-ghost use Rattle.std.specs.Prelude.{◌≡◌, ◌*◌, ◌≤◌, ℕ, List, [], length, count_by, IfOk};
+ghost use Rattle.std.specs.Prelude.{◌≡◌, ◌*◌, ◌⊎◌, ◌≤◌, ℕ, List, [], None, Some, length, count_by, IfOk, OnOk, OnErr};
+ghost use Rattle.std.specs.FinMap as map;
 ghost use Rattle.std.specs.List.{concat};
 ghost use Rattle.std.specs.List.Sorted.{IsPermutation};
 ghost use Rattle.esa_header.specs.Pieces.{HaveLength};
 ghost use Rattle.esa_params.specs.Form.{inner_length};
+ghost use Rattle.esa_outside.specs.Files.{Files};
+ghost use Rattle.esa_outside.specs.Cause.{HasCause};
+ghost use Rattle.esa_outside.specs.Told.{HoldsFront};
+ghost use Rattle.esa_analyser.specs.Rows.{database_bytes};
 ghost use Rattle.esa_analyser.specs.Opened.{database_of, gives, count_in};
 
-use crate::kept::Kept;
+use crate::kept::{Kept, write_kept};
 use esa_envelope::{Keys, prepare};
+use esa_outside::{Cabinet, Failed};
 use esa_params::Form;
 use std::alloc::{AllocError, Global};
 use std::marker::Model;
@@ -89,5 +95,19 @@ impl Analysis {
         ensures { result ≡ self.now.database.unopened }
     {
         self.total - self.kept.len() as u32
+    }
+
+    /// Writes the database as a file of the form's version. The file starts anew. It takes no memory.
+    pub fn write<K: Cabinet>(&self, cabinet: &mut K, name: &str) -> Result<(), Failed>
+        ensures written { (files : Files) → K.told cabinet.old ≡ Some files
+            → OnOk result (K.told cabinet.new ≡ Some (map.insert files name.now (database_bytes self.now.form self.now.database))) }
+
+        // A failed call leaves the file as it was, or a front of the whole file.
+        ensures failed { (files : Files) → K.told cabinet.old ≡ Some files
+            → OnErr result ((K.told cabinet.new ≡ Some files) ⊎ HoldsFront files name.now (database_bytes self.now.form self.now.database) (K.told cabinet.new)) }
+        ensures silent { K.told cabinet.old ≡ None → K.told cabinet.new ≡ None }
+        ensures cause { HasCause (K.faults cabinet.old) (K.faults cabinet.new) ⊥ result }
+    {
+        write_kept(&self.kept, self.rows, self.unopened(), cabinet, name)
     }
 }

@@ -3,9 +3,11 @@
 
 mod analysis;
 mod db;
+mod print;
 mod kept;
 mod key;
 mod keys;
+mod line;
 mod put;
 mod refused;
 mod row;
@@ -13,4 +15,6 @@ mod write;
 
 pub use analysis::Analysis;
 pub use db::{Db, read_db};
+pub use print::histogram;
 pub use refused::DbRefused;
+pub use write::write_db;

@@ -23,7 +23,6 @@ fn put_rows<K: Cabinet>(
     cabinet: &mut K,
     name: &str,
 ) -> Result<(), Failed>
-    requires { All (λ row. length row.0 ≤ 190) db.now.database.rows }
     ensures added { (before : Option Files) (text : List ℕ)
         → IsUnderway before name.now text page.old (K.told cabinet.old)
         → OnOk result (IsUnderway before name.now (text ++ flat_map row_bytes db.now.database.rows) page.new (K.told cabinet.new)) }
@@ -42,7 +41,6 @@ fn put_rows<K: Cabinet>(
 
 /// Writes the whole file. It starts anew.
 fn write_file<K: Cabinet>(form: Form, db: &Db, cabinet: &mut K, name: &str) -> Result<(), Failed>
-    requires { All (λ row. length row.0 ≤ 190) db.now.database.rows }
     ensures whole { OnOk result (IsWhole (K.told cabinet.old) name.now (database_bytes form db.now.database) (K.told cabinet.new)) }
     ensures left { OnErr result (IsLeft (K.told cabinet.old) name.now (database_bytes form db.now.database) (K.told cabinet.new)) }
     ensures cause { HasCause (K.faults cabinet.old) (K.faults cabinet.new) ⊥ result }
@@ -51,4 +49,20 @@ fn write_file<K: Cabinet>(form: Form, db: &Db, cabinet: &mut K, name: &str) -> R
     page.put(cabinet, name, &front(form, db.rows(), db.unopened()))?;
     put_rows(db, &mut page, cabinet, name)?;
     page.finish(cabinet, name)
+}
+
+/// Writes a database as a file of the form's version, whatever file it was read from. The file starts
+/// anew. It takes no memory.
+pub fn write_db<K: Cabinet>(form: Form, db: &Db, cabinet: &mut K, name: &str) -> Result<(), Failed>
+    requires { All (λ row. length row.0 ≤ longest form) db.now.database.rows }
+    ensures written { (files : Files) → K.told cabinet.old ≡ Some files
+        → OnOk result (K.told cabinet.new ≡ Some (map.insert files name.now (database_bytes form db.now.database))) }
+
+    // A failed call leaves the file as it was, or a front of the whole file.
+    ensures failed { (files : Files) → K.told cabinet.old ≡ Some files
+        → OnErr result ((K.told cabinet.new ≡ Some files) ⊎ HoldsFront files name.now (database_bytes form db.now.database) (K.told cabinet.new)) }
+    ensures silent { K.told cabinet.old ≡ None → K.told cabinet.new ≡ None }
+    ensures cause { HasCause (K.faults cabinet.old) (K.faults cabinet.new) ⊥ result }
+{
+    write_file(form, db, cabinet, name)
 }
