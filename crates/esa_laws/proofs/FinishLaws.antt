@@ -1,10 +1,10 @@
 -- A completed list of turns comes to its end.
-use Rattle.std.proofs.Common.{◌≡◌, ℕ, zero, suc, ◌+◌, ◌*◌, ◌%◌, ◌≤◌, ◌<◌, ⊎_elim, Bool, true, false, cond, ◌||◌, ◌==◌, List, [], ◌∷◌, ◌++◌, length, take, refl, sym, ◌∙◌, ap, subst, arith, length-append, length-take, get_or, ◌-◌}
+use Rattle.std.proofs.Common.{◌≡◌, ℕ, zero, suc, ◌+◌, ◌*◌, ◌%◌, ◌≤◌, ◌<◌, ⊎_elim, Bool, true, false, cond, ◌||◌, ◌==◌, List, [], ◌∷◌, ◌++◌, length, take, refl, sym, ◌∙◌, ap, subst, arith, length-append, length-take, get_or, ◌-◌, ◌≢◌}
 use Rattle.std.specs.List.{find, All}
 use Rattle.std.specs.Prelude.{Option, Some, None, is_some, unwrap_or, slice_index_or}
 use Rattle.std.specs.Option.{option_or}
 use Rattle.std.proofs.Math.Bool.{or-true}
-use Rattle.std.proofs.Math.Nat.{le_of_mul-le-mul_right, mod-eq_of_lt, add-mod_right, mul-le-mul_right}
+use Rattle.std.proofs.Math.Nat.{mul-mod_left, le_of_mul-le-mul_right, mod-eq_of_lt, add-mod_right, mul-le-mul_right}
 use Rattle.std.proofs.lemmas.Bool.{cases_lt, eq-eqb}
 use Rattle.std.proofs.lemmas.Bool.Decides.{nat_tests}
 use Rattle.std.proofs.lemmas.List.{take_all, take_at, take-take, take-append-le, length-take-le, get_or_append_left, get_or-append_right, get_or-append-add}
@@ -13,14 +13,17 @@ use Rattle.std.proofs.lemmas.List.Sums.{sum_by-cons, sum_by-append}
 use Rattle.std.proofs.lemmas.List.Elements.{All-append}
 use Rattle.esa_laws.proofs.Tests.{bit, unequal}
 use Rattle.esa_params.specs.Sizes.{Sizes, below}
+use Rattle.esa_laws.proofs.Events.{event-past}
+use Rattle.esa_laws.proofs.TurnLaws.{held-at_claim}
 use Rattle.esa_laws.proofs.Ranges.{sum-below-same, find-below-suc, below-suc}
 use Rattle.esa_laws.proofs.Sums.{hit-once, sum-below-each}
-use Rattle.esa_laws.proofs.RoundLaws.{Stands, rounds, writes_of, unclaimed, in_round, complete}
+use Rattle.esa_laws.proofs.RoundLaws.{Stands, rounds, writes_of, unclaimed, in_round, complete, next-by_phase}
 use Rattle.esa_laws.proofs.SpreadLaws.{find-below}
 use Rattle.esa_laws.proofs.TotalLaws.{total-writes}
 use Rattle.esa_spec.specs.Completion.{again, completed, is_finished_at, turns_needed, full}
 use Rattle.esa_spec.specs.Draws.{Draw}
-use Rattle.esa_spec.specs.Turns.{turns_of, claims, held, order, writes}
+use Rattle.esa_spec.specs.declared.event.Event.TheVariants.{Done, Idle}
+use Rattle.esa_spec.specs.Turns.{turns_of, next, next_phase, claims, held, order, writes}
 use Rattle.esa_spec.specs.Verdicts.{failing, is_finished}
 
 -- the turns of a worker in a completed list
@@ -97,6 +100,32 @@ module _ (b w : ℕ) (h : List ℕ) (some : 1 ≤ w) (all : AllBelow w h) (enoug
 
   pub all-done : writes b h ≡ b * b
   all-done = total-writes b h ∙ sum-below-each (writes_of b h) b b (λ j j_in. written-by j j_in ((rounds b h).stands j j_in))
+
+-- where each worker stands in a round that has no bucket, all chunks are written
+module _ (b w : ℕ) (h : List ℕ) (some : 1 ≤ w) (all : AllBelow w h) (through_with : (v : ℕ) → v < w → (next_phase b h v ≢ 0) × (b ≤ held b h v)) where
+  done-by : (j : ℕ) → j < b → Stands b h j → writes_of b h j ≡ b
+  done-by j j_in (unclaimed late none unwritten) =
+      let first = through_with 0 some in
+      absurd (omega (arith, (rounds b h).claimed 0 first.0, first.1))
+  done-by j j_in (in_round v inside holds exchanged written) = ⊎_elim
+      (λ (worker : v < w). let late = through_with v worker in absurd (omega (arith, late.1, holds)))
+      (λ (past : w ≤ v).
+      let positive : 0 < b + 3 = omega arith in
+      absurd (inside (ap (λ y. y % (b + 3)) (no_turns w v h all past) ∙ mod-eq_of_lt positive)))
+      (cases_lt v w)
+  done-by j j_in (complete claimed free exchanged written) = written
+
+  pub everybody-done : writes b h ≡ b * b
+  everybody-done = total-writes b h ∙ sum-below-each (writes_of b h) b b (λ j j_in. done-by j j_in ((rounds b h).stands j j_in))
+
+-- a worker that had b whole rounds is done
+pub done-at-last : (b : ℕ) (h : List ℕ) (v : ℕ) → turns_of v h ≡ b * (b + 3) → next b h v ≡ Done
+done-at-last b h v many =
+    let start : next_phase b h v ≡ 0 = ap (λ y. y % (b + 3)) many ∙ mul-mod_left b (b + 3) in
+    let rounds_begun : b * (b + 3) ≤ claims b h * (b + 3) = omega (arith, (rounds b h).begun v, many) in
+    let positive : 0 < b + 3 = omega arith in
+    let past : b ≤ held b h v = omega (arith, le_of_mul-le-mul_right rounds_begun positive, held-at_claim b h v start) in
+    next-by_phase b h v ∙ event-past b (held b h v) (next_phase b h v) past ∙ ap (λ y. cond (y == 0) Done Idle) start
 
 -- the search for the first number that passes
 not-last : (f : ℕ → Bool) (n : ℕ) (c : Bool) → f n ≡ c → cond c (Some n) None ≡ None → f n ≡ false
