@@ -1,5 +1,5 @@
 -- What a job that is acceptable has at its fields.
-use Rattle.std.proofs.Common.{◌≡◌, ℕ, zero, suc, ◌≤◌, Bool, true, false, ◌&&◌, ◌||◌, not, cond, List, [], ◌∷◌, length, map, find, slice_get, Option, Some, None, is_some, is_none, option_map, option_and_then, IsSome, refl, ap, ◌∙◌, sym, subst, nat_le}
+use Rattle.std.proofs.Common.{◌≡◌, ℕ, zero, suc, ◌≤◌, Bool, true, false, ◌&&◌, not, cond, List, [], ◌∷◌, length, map, slice_get, Option, Some, None, is_some, option_map, option_and_then, IsSome, refl, ap, ◌∙◌, sym, subst, nat_le}
 use Rattle.std.specs.List.{AllByRecursion, list_all, filter_map, cons_option}
 use Rattle.std.specs.Option.{option_or, option_map_or}
 use Rattle.std.proofs.lemmas.Bool.{leb-true}
@@ -12,11 +12,11 @@ use Rattle.esa_job.specs.declared.field.JobField.TheVariants.{Job, Keys, Input, 
 use Rattle.esa_job.specs.declared.field.Kind.TheVariants as kind
 use Rattle.esa_job.specs.declared.field.Need.{Need}
 use Rattle.esa_job.specs.declared.field.Need.TheVariants.{Unused, Optional, Needed}
-use Rattle.esa_job.specs.Refusal.{IsAcceptable, is_missing, is_ill_typed, breaks_rule, is_bad, first_bad, is_past, params_of, first_param_past, first_other_past, first_limit_past}
+use Rattle.esa_job.specs.Refusal.{IsAcceptable, is_missing, is_ill_typed, is_bad, first_bad, is_past, params_of, first_param_past, first_other_past}
 use Rattle.esa_job.specs.Request.{Request, is_used, is_needed, value_at, is_there, name_at, number_at, mode_at, list_at, inputs_at}
 use Rattle.esa_job.specs.Table.{fields, kind_of, need_of}
 use Rattle.esa_job.proofs.Outcomes.{both_false, both_true, not-false, not_chosen, is_none-none, none_found}
-use Rattle.esa_job.specs.Values.{accepts, name_in, number_in, mode_in, is_name, is_name_list, holds_names, list_of}
+use Rattle.esa_job.specs.Values.{name_in, number_in, mode_in, is_name, is_name_list, holds_names, list_of}
 
 -- ---- no field is bad
 

@@ -1,5 +1,5 @@
 -- Reading a table of drops line by line.
-use Rattle.std.proofs.Common.{◌≡◌, ℕ, zero, suc, ◌+◌, ◌-◌, ◌<◌, ◌≤◌, Bool, true, false, cond, List, [], ◌∷◌, ◌++◌, map, take, drop, length, set, slice_get, nat_lt, Option, Some, None, option_and_then, Result, Ok, Err, refl, ap, ◌∙◌, sym, arith, add-one}
+use Rattle.std.proofs.Common.{◌≡◌, ℕ, suc, ◌+◌, ◌-◌, ◌<◌, ◌≤◌, List, [], ◌∷◌, ◌++◌, map, take, drop, length, set, slice_get, Some, None, option_and_then, Ok, Err, refl, ap, ◌∙◌, sym, arith, add-one}
 use Rattle.std.specs.Option.{some_prefix}
 use Rattle.std.proofs.lemmas.Bool.{lt-ltb, le-ltb}
 use Rattle.std.proofs.lemmas.List.{append-nil, length-take-le, take_all}

@@ -1,5 +1,5 @@
 -- The drops that a drops file writes.
-use Rattle.std.specs.Prelude.{ℕ, ◌+◌, List, [], map, take, length, nat_lt, nat_le, Option, Result, Ok, Err, if◌then◌else◌}
+use Rattle.std.specs.Prelude.{ℕ, ◌+◌, List, map, take, length, nat_lt, nat_le, Option, Result, Ok, Err, if◌then◌else◌}
 use Rattle.std.specs.Option.{some_prefix}
 use Rattle.esa_bytes.specs.Decimal.{decimal_in}
 use Rattle.esa_bytes.specs.Lines.{text_lines}

@@ -1,6 +1,5 @@
-use Rattle.std.proofs.Common.{sym, ap, ◌∙◌, map, List, [], Option, option_and_then}
+use Rattle.std.proofs.Common.{sym, ap, ◌∙◌, map, [], option_and_then}
 use Rattle.std.specs.Option.{option_map_or}
-use Rattle.serde_json.specs.Data.{Data, Items}
 use Rattle.serde_json.specs.Find.{as_array}
 use Rattle.serde_json.specs.View.{view}
 use Rattle.esa_job.specs.Values.{list_of}

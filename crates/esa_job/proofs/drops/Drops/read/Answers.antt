@@ -1,5 +1,4 @@
-use Rattle.std.proofs.Common.{◌≡◌, ◌∙◌, sym, arith, length, drop, length-set}
-use Rattle.esa_bytes.specs.Lines.{text_lines}
+use Rattle.std.proofs.Common.{◌≡◌, ◌∙◌, arith, length-set}
 use Rattle.esa_job.proofs.DropLemmas.{one_more, bad_line, another_line, whole_table}
 use Rattle.esa_job.proofs.drops.Drops.read.Goals as goal
 

@@ -1,2 +1,0 @@
-pub use Rattle.esa_params.specs.Sizes
-pub mod Seeded

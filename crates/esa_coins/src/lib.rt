@@ -1,5 +1,0 @@
-//! Coins.
-#![tactic(auto)]
-
-mod draws;
-
