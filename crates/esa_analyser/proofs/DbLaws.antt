@@ -16,7 +16,7 @@ use Rattle.esa_analyser.specs.declared.refused.DbRefused.{DbRefused}
 use Rattle.esa_analyser.specs.declared.refused.DbRefused.TheVariants.{Trailing, OutOfMemory}
 use Rattle.esa_analyser.specs.Database.{Database, longest}
 use Rattle.esa_analyser.specs.Stored.{Stored}
-use Rattle.esa_analyser.specs.Rows.{row_bytes, database_front, database_bytes, is_above, AreRising, IsRow, IsDatabase}
+use Rattle.esa_analyser.specs.Rows.{row_bytes, front_bytes, database_bytes, is_above, AreRising, IsRow, IsDatabase}
 use Rattle.esa_analyser.specs.Reading.{cut, row_length, row_value, row_count, front_row, row_refusal, before_rows, rows_in, stored_rows, stored_by_form, database_in}
 use Rattle.esa_analyser.proofs.RowReading.{Passes, passes}
 
@@ -208,7 +208,7 @@ module _ (form : Form) (database : Database) (is : IsDatabase form database) whe
       u32_in-written ((codes "ESAD" ++ (version_byte form ∷ [])) ++ number) rest 9 database.unopened refl is.unopened
 
   front_length : 13 ≤ length (database_bytes form database)
-  front_length = omega (arith, length-append (database_front form database) (flat_map row_bytes database.rows))
+  front_length = omega (arith, length-append (front_bytes form (length database.rows) database.unopened) (flat_map row_bytes database.rows))
 
   pub database_in-accepts : database_in (database_bytes form database) ≡ Ok (record { form = form; database = database })
   database_in-accepts =

@@ -13,7 +13,7 @@ padded mark n k [] = replicate n 0 ++ mark k
 padded mark zero k (x ∷ xs) = x ∷ xs ++ mark (k + 1 + length xs)
 padded mark (suc n) k (x ∷ xs) = x ∷ padded mark n (k + 1) xs
 
-less_number : (x y : ℕ) → x < y → nat_cmp x y ≡ Less
+pub less_number : (x y : ℕ) → x < y → nat_cmp x y ≡ Less
 less_number x y less = grind (arith, nat_tests)
 
 same_head : (x : ℕ) (o : Ordering) → ordering_then (nat_cmp x x) o ≡ o

@@ -2,5 +2,13 @@ pub mod Database
 pub mod Stored
 pub mod Rows
 pub mod Reading
+pub mod Opened
+pub mod SortKey
+pub mod RunBytes
+pub mod Kept
+pub mod KeptBytes
+pub mod Histogram
+pub mod Counted
+pub mod Inside
 pub use Rattle.esa_params.specs.Form
 pub use Rattle.esa_header.specs.Version

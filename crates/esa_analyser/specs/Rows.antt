@@ -12,13 +12,12 @@ abbrev pub row_bytes : List ℕ × ℕ → List ℕ
 row_bytes row = length row.0 ∷ (row.0 ++ to_be_bytes w32 row.1)
 
 -- the magic, the version, the number of rows and the number of unopened envelopes
-abbrev pub database_front : Form → Database → List ℕ
-database_front form database =
-    codes "ESAD" ++ (version_byte form ∷ (to_be_bytes w32 (length database.rows) ++ to_be_bytes w32 database.unopened))
+abbrev pub front_bytes : Form → ℕ → ℕ → List ℕ
+front_bytes form rows unopened = codes "ESAD" ++ (version_byte form ∷ (to_be_bytes w32 rows ++ to_be_bytes w32 unopened))
 
 -- the file of a database, in the version of the form
 abbrev pub database_bytes : Form → Database → List ℕ
-database_bytes form database = database_front form database ++ flat_map row_bytes database.rows
+database_bytes form database = front_bytes form (length database.rows) database.unopened ++ flat_map row_bytes database.rows
 
 -- a value is above the one before it, if there is one
 abbrev pub is_above : Option (List ℕ) → List ℕ → Bool

@@ -5,7 +5,7 @@ ghost use Rattle.esa_analyser.specs.declared.refused.DbRefused.TheVariants.{OutO
 ghost use Rattle.esa_params.specs.declared.form.Form.{Form};
 ghost use Rattle.esa_analyser.specs.Database.{Database};
 ghost use Rattle.esa_analyser.specs.Rows.{IsDatabase, database_bytes};
-ghost use Rattle.esa_analyser.specs.Reading.{rows_in, row_at, RowsInside, database_in};
+ghost use Rattle.esa_analyser.specs.Reading.{rows_in, row_at, RowsInside, AreShort, database_in};
 
 use crate::DbRefused;
 use crate::row::read_row;
@@ -35,11 +35,12 @@ impl Model for Db {
 
     ghost Value = { Stored };
 
-    ghost use Rattle.esa_analyser.specs.Reading.{row_at, RowsInside};
+    ghost use Rattle.esa_analyser.specs.Database.{longest};
+    ghost use Rattle.esa_analyser.specs.Reading.{row_at, RowsInside, AreShort};
 
     ghost view = { λ db. record { form = db.form; database = record { rows = map (row_at db.bytes.items) db.starts.items; unopened = db.unopened } } };
 
-    ghost invariant = { λ db. RowsInside db.bytes.items db.starts.items × (length db.starts.items < 2 ^ 32) };
+    ghost invariant = { λ db. RowsInside db.bytes.items db.starts.items × AreShort (longest db.form) db.bytes.items db.starts.items × (length db.starts.items < 2 ^ 32) };
 }
 
 /// The places where the rows of a database file start, or the first test that a row fails.
@@ -54,6 +55,7 @@ fn read_rows(
         MatchResult result (λ starts. read ≡ Ok (map (row_at bytes.now) starts.items))
         (λ refused. (refused ≡ OutOfMemory) ⊎ (read ≡ Err refused)) }
     ensures inside { IfOk result (λ starts. RowsInside bytes.now starts.items) }
+    ensures short { IfOk result (λ starts. AreShort longest bytes.now starts.items) }
     ensures number { IfOk result (λ starts. length starts.items ≡ number) }
 {
     let mut starts = Vec::new(alloc);
@@ -142,7 +144,8 @@ impl Db {
     /// The value of a row, counted from 0.
     pub fn value(&self, row: u32) -> &[u8]
         requires { row < length self.now.database.rows }
-        ensures { result.now ≡ (slice_index_or self.now.database.rows row ([], 0)).0 }
+        ensures value { result.now ≡ (slice_index_or self.now.database.rows row ([], 0)).0 }
+        ensures short { length result.now ≤ 190 }
     {
         let start = self.starts[row as usize];
         let length = usize::from(self.bytes[start]);

@@ -5,11 +5,11 @@ use Rattle.std.proofs.lemmas.List.{take_at, drop_at, length-take-le, length-drop
 use Rattle.std.proofs.lemmas.List.Elements.{All-cons, All-head, All-tail}
 use Rattle.esa_header.specs.Pieces.{pieces, HaveLength}
 
-one_more : (size count n : ℕ) → n ≡ size * suc count → (size ≤ n) × (n - size ≡ size * count)
+pub one_more : (size count n : ℕ) → n ≡ size * suc count → (size ≤ n) × (n - size ≡ size * count)
 one_more size count n whole = let e : size * suc count ≡ size * count + size = mul-suc size count in (omega arith, omega arith)
 
 -- what is left behind the first piece
-rest_length : (size count : ℕ) (bytes : List ℕ) → length bytes ≡ size * suc count → length (drop size bytes) ≡ size * count
+pub rest_length : (size count : ℕ) (bytes : List ℕ) → length bytes ≡ size * suc count → length (drop size bytes) ≡ size * count
 rest_length size count bytes whole = length-drop size bytes ∙ (one_more size count (length bytes) whole).1
 
 -- cut into its pieces and joined, a list is the same again

@@ -1,0 +1,68 @@
+//! Writing databases.
+
+ghost use Rattle.std.specs.Prelude.{◌≡◌, ◌⊎◌, ◌≤◌, ◌<◌, ◌^◌, ◌++◌, List, ℕ, None, Some, Option, All, length, flat_map, OnOk, OnErr};
+ghost use Rattle.std.specs.FinMap as map;
+ghost use Rattle.esa_outside.specs.Files.{Files};
+ghost use Rattle.esa_outside.specs.Cause.{HasCause};
+ghost use Rattle.esa_outside.specs.Told.{HoldsFront};
+ghost use Rattle.esa_page.specs.Underway.{IsUnderway, IsWhole, IsLeft};
+ghost use Rattle.esa_params.specs.declared.form.Form.{Form};
+ghost use Rattle.esa_analyser.specs.Database.{longest};
+ghost use Rattle.esa_analyser.specs.Rows.{row_bytes, database_bytes};
+
+use crate::Db;
+use crate::put::{front, put_row};
+use esa_outside::{Cabinet, Failed};
+use esa_page::Page;
+use esa_params::Form;
+
+/// Puts the rows of a database behind the bytes that wait in the page.
+fn put_rows<K: Cabinet>(
+    db: &Db,
+    page: &mut Page,
+    cabinet: &mut K,
+    name: &str,
+) -> Result<(), Failed>
+    ensures added { (before : Option Files) (text : List ℕ)
+        → IsUnderway before name.now text page.old (K.told cabinet.old)
+        → OnOk result (IsUnderway before name.now (text ++ flat_map row_bytes db.now.database.rows) page.new (K.told cabinet.new)) }
+    ensures failed { (before : Option Files) (text : List ℕ)
+        → IsUnderway before name.now text page.old (K.told cabinet.old)
+        → OnErr result (IsLeft before name.now (text ++ flat_map row_bytes db.now.database.rows) (K.told cabinet.new)) }
+    ensures cause { (before : Option Files) (text : List ℕ)
+        → IsUnderway before name.now text page.old (K.told cabinet.old)
+        → HasCause (K.faults cabinet.old) (K.faults cabinet.new) ⊥ result }
+{
+    for row in 0..db.rows() {
+        put_row(page, cabinet, name, db.value(row), db.count(row))?;
+    }
+    Ok(())
+}
+
+/// Writes the whole file. It starts anew.
+fn write_file<K: Cabinet>(form: Form, db: &Db, cabinet: &mut K, name: &str) -> Result<(), Failed>
+    ensures whole { OnOk result (IsWhole (K.told cabinet.old) name.now (database_bytes form db.now.database) (K.told cabinet.new)) }
+    ensures left { OnErr result (IsLeft (K.told cabinet.old) name.now (database_bytes form db.now.database) (K.told cabinet.new)) }
+    ensures cause { HasCause (K.faults cabinet.old) (K.faults cabinet.new) ⊥ result }
+{
+    let mut page = Page::start(cabinet, name)?;
+    page.put(cabinet, name, &front(form, db.rows(), db.unopened()))?;
+    put_rows(db, &mut page, cabinet, name)?;
+    page.finish(cabinet, name)
+}
+
+/// Writes a database as a file of the form's version, whatever file it was read from. The file starts
+/// anew. It takes no memory.
+pub fn write_db<K: Cabinet>(form: Form, db: &Db, cabinet: &mut K, name: &str) -> Result<(), Failed>
+    requires { All (λ row. length row.0 ≤ longest form) db.now.database.rows }
+    ensures written { (files : Files) → K.told cabinet.old ≡ Some files
+        → OnOk result (K.told cabinet.new ≡ Some (map.insert files name.now (database_bytes form db.now.database))) }
+
+    // A failed call leaves the file as it was, or a front of the whole file.
+    ensures failed { (files : Files) → K.told cabinet.old ≡ Some files
+        → OnErr result ((K.told cabinet.new ≡ Some files) ⊎ HoldsFront files name.now (database_bytes form db.now.database) (K.told cabinet.new)) }
+    ensures silent { K.told cabinet.old ≡ None → K.told cabinet.new ≡ None }
+    ensures cause { HasCause (K.faults cabinet.old) (K.faults cabinet.new) ⊥ result }
+{
+    write_file(form, db, cabinet, name)
+}
