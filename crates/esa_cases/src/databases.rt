@@ -5,6 +5,7 @@ use esa_cli::Status;
 use esa_envelope::{Label, keys_of, seal};
 use esa_report::code;
 use std::alloc::Global;
+use std::process::Abort;
 use std::test::Fail;
 
 /// A forward file of no envelopes.
@@ -40,13 +41,14 @@ fn three_alike(alloc: Global) -> Result<Vec<u8>, Fail> {
 
 // Runs a command on an input file, and checks what it wrote and printed.
 fn expect(
-    rt: &HostRuntime,
+    rt: &impl Abort,
+    alloc: Global,
     command: &str,
     input: &[u8],
     output: Option<&[u8]>,
     printed: &[u8],
 ) -> Result<(), Fail> {
-    let mut desk = Desk::make(rt.alloc(), &[], &[])?;
+    let mut desk = Desk::make(alloc, &[], &[])?;
     desk.cabinet.put("input", input)?;
     let status = desk.run(&[command, "job.json"])?;
     assert_eq!(rt; status, Status::Ok);
@@ -58,25 +60,60 @@ fn expect(
 #[test]
 fn analyse_small(rt: HostRuntime) -> Result<(), Fail> {
     let none = b"ESAD\x01\x00\x00\x00\x00\x00\x00\x00\x00";
-    expect(&rt, "analyse", EMPTY, Some(none), b"rows 0 unopened 0\n")?;
+    expect(
+        &rt,
+        rt.alloc(),
+        "analyse",
+        EMPTY,
+        Some(none),
+        b"rows 0 unopened 0\n",
+    )?;
     let one = b"ESAD\x01\x00\x00\x00\x00\x00\x00\x00\x01";
     let wrong = one_wrong(rt.alloc())?;
-    expect(&rt, "analyse", &wrong, Some(one), b"rows 0 unopened 1\n")
+    expect(
+        &rt,
+        rt.alloc(),
+        "analyse",
+        &wrong,
+        Some(one),
+        b"rows 0 unopened 1\n",
+    )
 }
 
 #[test]
 fn repeated_envelope(rt: HostRuntime) -> Result<(), Fail> {
     let file = three_alike(rt.alloc())?;
-    expect(&rt, "analyse", &file, Some(THREE), b"rows 1 unopened 0\n")
+    expect(
+        &rt,
+        rt.alloc(),
+        "analyse",
+        &file,
+        Some(THREE),
+        b"rows 1 unopened 0\n",
+    )
 }
 
 #[test]
 fn histogram_line(rt: HostRuntime) -> Result<(), Fail> {
-    expect(&rt, "histogram", THREE, None, b"         3 a\nunopened 0\n")
+    expect(
+        &rt,
+        rt.alloc(),
+        "histogram",
+        THREE,
+        None,
+        b"         3 a\nunopened 0\n",
+    )
 }
 
 #[test]
 fn upgrade_rows(rt: HostRuntime) -> Result<(), Fail> {
     let two = b"ESAD\x02\x00\x00\x00\x01\x00\x00\x00\x00\x01a\x00\x00\x00\x03";
-    expect(&rt, "upgrade", THREE, Some(two), b"rows 1 unopened 0\n")
+    expect(
+        &rt,
+        rt.alloc(),
+        "upgrade",
+        THREE,
+        Some(two),
+        b"rows 1 unopened 0\n",
+    )
 }

@@ -38,11 +38,6 @@ impl Desk {
         for word in words {
             owned.push(String::from_str(self.alloc, word)?)?;
         }
-        Ok(esa_plain(
-            self.alloc,
-            &owned,
-            &mut self.cabinet,
-            &mut self.printer,
-        ))
+        Ok(esa_plain(self.alloc, &owned, &mut self.cabinet, &mut self.printer))
     }
 }

@@ -3,6 +3,7 @@
 use crate::databases::{EMPTY, THREE};
 use crate::desk::{Desk, KEYS};
 use std::alloc::Global;
+use std::process::Abort;
 use std::test::Fail;
 
 /// A run of analyse, and the line that it prints.
@@ -21,16 +22,76 @@ const JOB: &[u8] = b"{\"keys\":\"keys.json\",\"input\":\"input\",\"output\":\"ou
 const USAGE: &[u8] = b"usage: esa COMMAND JOBFILE\n";
 
 const CASES: [Case; 10] = [
-    Case { words: &["run"], job: JOB, keys: KEYS, line: USAGE, code: 2 },
-    Case { words: &["fly", "job.json"], job: JOB, keys: KEYS, line: USAGE, code: 2 },
-    Case { words: &["run", "job.json"], job: JOB, keys: KEYS, line: b"refused: not-built run\n", code: 3 },
-    Case { words: ANALYSE, job: b"[]", keys: KEYS, line: b"refused: job job\n", code: 3 },
-    Case { words: ANALYSE, job: b"", keys: KEYS, line: b"refused: job job\n", code: 3 },
-    Case { words: ANALYSE, job: b"{\"input\":7}", keys: KEYS, line: b"refused: job keys\n", code: 3 },
-    Case { words: ANALYSE, job: b"{\"keys\":\"keys.json\",\"input\":\"input\",\"output\":\"input\"}", keys: KEYS, line: b"refused: job output\n", code: 3 },
-    Case { words: ANALYSE, job: JOB, keys: b"7", line: b"refused: keys keys\n", code: 3 },
-    Case { words: ANALYSE, job: JOB, keys: b"{\"inner\":\"000000000000000000000000000000000000000000000000000000000000000\"}", line: b"refused: keys inner\n", code: 3 },
-    Case { words: &["analyse", "no.json"], job: JOB, keys: KEYS, line: b"outside fault: job\n", code: 5 },
+    Case {
+        words: &["run"],
+        job: JOB,
+        keys: KEYS,
+        line: USAGE,
+        code: 2,
+    },
+    Case {
+        words: &["fly", "job.json"],
+        job: JOB,
+        keys: KEYS,
+        line: USAGE,
+        code: 2,
+    },
+    Case {
+        words: &["run", "job.json"],
+        job: JOB,
+        keys: KEYS,
+        line: b"refused: not-built run\n",
+        code: 3,
+    },
+    Case {
+        words: ANALYSE,
+        job: b"[]",
+        keys: KEYS,
+        line: b"refused: job job\n",
+        code: 3,
+    },
+    Case {
+        words: ANALYSE,
+        job: b"",
+        keys: KEYS,
+        line: b"refused: job job\n",
+        code: 3,
+    },
+    Case {
+        words: ANALYSE,
+        job: b"{\"input\":7}",
+        keys: KEYS,
+        line: b"refused: job keys\n",
+        code: 3,
+    },
+    Case {
+        words: ANALYSE,
+        job: b"{\"keys\":\"keys.json\",\"input\":\"input\",\"output\":\"input\"}",
+        keys: KEYS,
+        line: b"refused: job output\n",
+        code: 3,
+    },
+    Case {
+        words: ANALYSE,
+        job: JOB,
+        keys: b"7",
+        line: b"refused: keys keys\n",
+        code: 3,
+    },
+    Case {
+        words: ANALYSE,
+        job: JOB,
+        keys: b"{\"inner\":\"000000000000000000000000000000000000000000000000000000000000000\"}",
+        line: b"refused: keys inner\n",
+        code: 3,
+    },
+    Case {
+        words: &["analyse", "no.json"],
+        job: JOB,
+        keys: KEYS,
+        line: b"outside fault: job\n",
+        code: 5,
+    },
 ];
 
 #[test]
@@ -58,13 +119,13 @@ fn line_of(alloc: Global, command: &str, input: &[u8]) -> Result<Vec<u8>, Fail> 
 
 // Checks each proper prefix of a file against the number of bytes that is wanted of it.
 fn expect_cuts(
-    rt: &HostRuntime,
+    rt: &impl Abort,
+    alloc: Global,
     command: &str,
     file: &[u8],
     what: &str,
     wants: &[usize],
 ) -> Result<(), Fail> {
-    let alloc = rt.alloc();
     assert_eq!(rt; wants.len(), file.len());
     for have in 0..file.len() {
         let want = wants[have];
@@ -80,10 +141,10 @@ fn each_prefix(rt: HostRuntime) -> Result<(), Fail> {
     let database = [
         13, 13, 13, 13, 13, 13, 13, 13, 13, 13, 13, 13, 13, 14, 19, 19, 19, 19, 19,
     ];
-    expect_cuts(&rt, "histogram", THREE, "database", &database)?;
+    expect_cuts(&rt, rt.alloc(), "histogram", THREE, "database", &database)?;
     let two = b"ESAF\x02\x00\x00\x00\x00\x00\xe8\x00\x00\x00\x07";
     let forward = [11, 11, 11, 11, 11, 11, 11, 11, 11, 11, 11, 15, 15, 15, 15];
-    expect_cuts(&rt, "analyse", two, "forward", &forward)
+    expect_cuts(&rt, rt.alloc(), "analyse", two, "forward", &forward)
 }
 
 // A JSON object whose values are nested so deep: itself, and lists in it.
@@ -103,7 +164,8 @@ fn nested(alloc: Global, front: &str, depth: usize) -> Result<Vec<u8>, Fail> {
 fn nested_values(rt: HostRuntime) -> Result<(), Fail> {
     let alloc = rt.alloc();
     let job = "{\"keys\":\"keys.json\",\"input\":\"input\",\"output\":\"output\",\"more\":";
-    let keys = "{\"inner\":\"0000000000000000000000000000000000000000000000000000000000000000\",\"more\":";
+    let keys =
+        "{\"inner\":\"0000000000000000000000000000000000000000000000000000000000000000\",\"more\":";
     let rows: [(&str, &str, usize, &[u8]); 4] = [
         ("job.json", job, 127, b"rows 0 unopened 0\n"),
         ("job.json", job, 128, b"refused: job job\n"),

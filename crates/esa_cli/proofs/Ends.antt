@@ -1,5 +1,5 @@
 -- A command ends as its taking in stops, or as the work that it owes ends.
-use Rattle.std.proofs.Common.{◌≡◌, ◌≢◌, ◌⊎◌, ℕ, List, ◌++◌, Option, Some, refl, sym, ap, ◌∙◌, subst}
+use Rattle.std.proofs.Common.{◌≡◌, ◌≢◌, ◌⊎◌, ℕ, List, [], ◌++◌, Option, Some, None, refl, sym, ap, ◌∙◌, subst, inl, inr, ⊎_elim}
 use Rattle.std.specs.Prelude.{Result, Ok, Err, IsSome}
 use Rattle.esa_lists.specs.Files.{Files}
 use Rattle.esa_outside.specs.Cause.{Rose}
@@ -12,9 +12,9 @@ use Rattle.esa_cli.specs.declared.status.Status.TheVariants as status
 use Rattle.esa_cli.specs.declared.stop.Stop.{Stop}
 use Rattle.esa_cli.specs.declared.stop.Stop.TheVariants.{Refused, Unread, OutOfMemory, Unwritten, Unprinted}
 use Rattle.esa_cli.specs.Source.{role_of}
-use Rattle.esa_cli.specs.Step.{Step, accepted, refused, missing, Reads, reads_of, without}
+use Rattle.esa_cli.specs.Step.{Step, ◌>>=◌, accepted, refused, missing, Reads, reads_of, without}
 use Rattle.esa_cli.specs.Judged.{StopsBy, Counted}
-use Rattle.esa_cli.specs.Work.{Work, Performs, PrintsAll, WorkCounted, BreaksAt}
+use Rattle.esa_cli.specs.Work.{Work, Performs, PrintsAll, WorkCounted, LineCounted, BreaksAt}
 use Rattle.esa_cli.specs.Ends.{Does, Ends}
 use Rattle.esa_cli.specs.Explains.{Accepts, IsUnread, IsFault, Explains, FaultCounted, EndCounted, PrinterCounted, IsOwed, HasPrinted, status_of, ending, role_of_sink}
 
@@ -181,3 +181,25 @@ ends_work steps files begun left before start now bytes printed printer_before p
       silent = λ none. does.silent (same ∙ none);
       printer_silent = does.printer_silent;
     }
+
+-- ---- a command whose steps go on after the taking in without a file, and work that only prints
+
+pub stops_then : {A B : Type 0} (steps : Reads → Step A) (next : A → Step B) (read : Reads) (before now : ℕ) (stop : Stop) → StopsBy steps read before now stop → StopsBy (λ r. steps r >>= next) read before now stop
+stops_then steps next read before now (Refused refusal) stops = (ap (λ step. step >>= next) stops.0, stops.1)
+stops_then steps next read before now (Unread source) stops =
+    (ap (λ step. step >>= next) stops.0, ⊎_elim (λ rose. inl rose) (λ lacks. inr (ap (λ step. step >>= next) lacks)) stops.1)
+stops_then steps next read before now OutOfMemory stops = stops
+stops_then steps next read before now (Unwritten sink) stops = stops
+stops_then steps next read before now Unprinted stops = stops
+
+pub does_print : {X : Type 0} (lines : List ℕ) (files : Option Files) (before : ℕ) (bytes shown : Option (List ℕ)) (printer_before printer : ℕ) (result : Result X Stop)
+    → ((text : List ℕ) → bytes ≡ Some text → PrintsAll lines text shown result) → LineCounted printer_before printer result → (bytes ≡ None → shown ≡ None)
+    → Does (record { writes = []; prints = lines }) files files before before bytes shown printer_before printer result
+does_print lines files before bytes shown printer_before printer (Ok done) prints counts silent =
+    record { performs = λ told is. is; counted = (refl, counts); prints = prints; silent = λ none. none; printer_silent = silent }
+does_print lines files before bytes shown printer_before printer (Err Unprinted) prints counts silent =
+    record { performs = λ told is. is; counted = (refl, counts); prints = prints; silent = λ none. none; printer_silent = silent }
+does_print lines files before bytes shown printer_before printer (Err (Unwritten sink)) prints counts silent = absurd counts
+does_print lines files before bytes shown printer_before printer (Err (Refused refusal)) prints counts silent = absurd counts
+does_print lines files before bytes shown printer_before printer (Err (Unread source)) prints counts silent = absurd counts
+does_print lines files before bytes shown printer_before printer (Err OutOfMemory) prints counts silent = absurd counts

@@ -5,3 +5,4 @@ pub mod PrintedLine
 pub mod JobCommand
 pub mod TakingExits
 pub mod Tops
+pub mod Counts

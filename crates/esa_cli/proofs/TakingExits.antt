@@ -8,7 +8,7 @@ use Rattle.esa_cli.specs.declared.refusal.Refusal.{Refusal}
 use Rattle.esa_cli.specs.declared.source.Source.{Source}
 use Rattle.esa_cli.specs.declared.source.Source.TheVariants as source
 use Rattle.esa_cli.specs.Step.{Step, accepted, refused, missing}
-use Rattle.esa_cli.specs.Taking.{name_of, read_step, job_file, keys_file, forward_file}
+use Rattle.esa_cli.specs.Taking.{name_of, read_step, job_file, keys_file, forward_file, database_file}
 use Rattle.esa_cli.proofs.Exits.{MissesOnly, ReadsNothing, misses_file}
 
 reads_none : {A E : Type 0} (why : E → Refusal) (read : Result A E) (other : Source) → read_step why read ≡ missing other → ⊥
@@ -29,3 +29,7 @@ keys_miss command shares request = misses_file command source.Keys (name_of requ
 pub forward_miss : (command : Command) (request : Request) → MissesOnly source.Input (forward_file command request)
 unfolding forward_file
 forward_miss command request = misses_file command source.Input (name_of request field.Input) _ (read_pure _ _)
+
+pub database_miss : (command : Command) (request : Request) → MissesOnly source.Input (database_file command request)
+unfolding database_file
+database_miss command request = misses_file command source.Input (name_of request field.Input) _ (read_pure _ _)

@@ -15,6 +15,8 @@ use Rattle.esa_threshold.specs.declared.envelopes.Forwarded.{Forwarded}
 use Rattle.esa_threshold.specs.declared.refused.ForwardRefused.{ForwardRefused}
 use Rattle.esa_threshold.specs.Forward.{forward_in}
 use Rattle.esa_cli.specs.declared.source.Source.TheVariants as source
+use Rattle.esa_analyser.specs.Stored.{Stored}
+use Rattle.esa_analyser.specs.Reading.{database_in}
 use Rattle.esa_cli.specs.declared.refusal.Refusal.{Refusal}
 use Rattle.esa_cli.specs.declared.refusal.Refusal.TheVariants as refusal
 use Rattle.esa_cli.specs.Step.{Step, ◌>>=◌, accepted, refused, missing, Reads, file}
@@ -53,3 +55,8 @@ keys_file command shares request read =
 unfoldable pub forward_file : Command → Request → Reads → Step Forwarded
 forward_file command request read =
     file command source.Input (name_of request field.Input) read >>= λ bytes. read_step refusal.Forward (forward_in bytes)
+
+-- the database file of a job
+unfoldable pub database_file : Command → Request → Reads → Step Stored
+database_file command request read =
+    file command source.Input (name_of request field.Input) read >>= λ bytes. read_step refusal.Database (database_in bytes)

@@ -1,6 +1,7 @@
 //! The commands: from the words of a command line to the files that it writes and the lines that it prints.
 #![tactic(auto)]
 
+mod analyse;
 mod call;
 mod line;
 mod plain;
@@ -10,6 +11,7 @@ mod refusal;
 mod source;
 mod status;
 mod stop;
+mod stored;
 mod taking;
 mod telling;
 mod words;

@@ -8,6 +8,7 @@ ghost use Rattle.esa_cli.specs.Ends.{Ends};
 ghost use Rattle.esa_cli.specs.Explains.{EndCounted, ending, status_of};
 ghost use Rattle.esa_cli.specs.Plain.{steps_of, IsExplained, IsPrinted, IsComplete, CallEnds};
 
+use crate::analyse::analyse;
 use crate::call::{Call, call_of};
 use crate::refusal::Refusal;
 use crate::status::Status;
@@ -28,6 +29,7 @@ fn run<K: Cabinet, P: Printer>(
         (P.told printer.old) (P.told printer.new) (P.faults printer.old) (P.faults printer.new) (ending result) }
 {
     match call.command {
+        Command::Analyse => analyse(alloc, cabinet, printer, call.job),
         command => Err(Stop::Refused(Refusal::NotBuilt(command))),
     }
 }

@@ -4,15 +4,18 @@ ghost use Rattle.std.specs.Prelude.{◌≡◌, Some, IsSome, IfOk, true};
 ghost use Rattle.esa_lists.specs.Files.{Files};
 ghost use Rattle.esa_job.specs.Seen.{request_of, Needs};
 ghost use Rattle.esa_job.specs.Keys.{needs_key, key_of};
+ghost use Rattle.esa_analyser.specs.Rows.{IsDatabase};
 ghost use Rattle.esa_cli.specs.Step.{reads_of};
-ghost use Rattle.esa_cli.specs.Taking.{job_file, keys_file, forward_file};
+ghost use Rattle.esa_cli.specs.Taking.{job_file, keys_file, forward_file, database_file};
+ghost use Rattle.esa_cli.specs.Analyse.{AreWhole};
 ghost use Rattle.esa_cli.specs.Judged.{Judged, Counted};
-ghost use Rattle.esa_cli.specs.Stop.{stop_of_job, stop_of_keys, stop_of_forward};
+ghost use Rattle.esa_cli.specs.Stop.{stop_of_job, stop_of_keys, stop_of_forward, stop_of_database};
 
 use crate::reading::read_file;
 use crate::refusal::Refusal;
 use crate::source::Source;
 use crate::stop::Stop;
+use esa_analyser::{Db, DbRefused, read_db};
 use esa_job::{Command, Job, JobField, JobRefused, KeyField, KeyRing, KeysRefused};
 use esa_outside::Cabinet;
 use esa_threshold::{ForwardRefused, Forwarded, read_forward};
@@ -48,6 +51,17 @@ impl From<ForwardRefused> for Stop {
         match refused {
             ForwardRefused::OutOfMemory => Stop::OutOfMemory,
             refused => Stop::Refused(Refusal::Forward(refused)),
+        }
+    }
+}
+
+impl From<DbRefused> for Stop {
+    ghost from_gives = { λ refused stop. stop ≡ stop_of_database refused };
+
+    fn from(refused: DbRefused) -> Stop {
+        match refused {
+            DbRefused::OutOfMemory => Stop::OutOfMemory,
+            refused => Stop::Refused(Refusal::Database(refused)),
         }
     }
 }
@@ -104,7 +118,27 @@ pub fn take_forward<K: Cabinet>(
         → Judged (λ forwarded. forwarded) (forward_file command (request_of job.now)) (reads_of files) (K.faults cabinet.old) (K.faults cabinet.new) result }
     ensures counted { Counted (K.told cabinet.old) (K.faults cabinet.old) (K.faults cabinet.new) result }
     ensures told { K.told cabinet.new ≡ K.told cabinet.old }
+    ensures whole { IfOk result AreWhole }
 {
     let bytes = read_file(alloc, cabinet, command, Source::Input, job.input())?;
     Ok(read_forward(alloc, &bytes)?)
+}
+
+/// Reads the database file of a job.
+#[tactic(auto, unfolding(crate::specs::Taking::database_file))]
+pub fn take_database<K: Cabinet>(
+    alloc: Global,
+    cabinet: &mut K,
+    command: Command,
+    job: &Job,
+) -> Result<Db, Stop>
+    requires { Needs job.now JobField.Input }
+    ensures judged { (files : Files) → K.told cabinet.old ≡ Some files
+        → Judged (λ db. db) (database_file command (request_of job.now)) (reads_of files) (K.faults cabinet.old) (K.faults cabinet.new) result }
+    ensures counted { Counted (K.told cabinet.old) (K.faults cabinet.old) (K.faults cabinet.new) result }
+    ensures told { K.told cabinet.new ≡ K.told cabinet.old }
+    ensures database { IfOk result (λ db. IsDatabase db.form db.database) }
+{
+    let bytes = read_file(alloc, cabinet, command, Source::Input, job.input())?;
+    Ok(read_db(alloc, &bytes)?)
 }
