@@ -1,10 +1,9 @@
 -- What was counted is the database of the list, whatever its order.
-use Rattle.std.proofs.Common.{◌≡◌, ℕ, suc, zero, ◌+◌, ◌-◌, ◌*◌, ◌/◌, ◌<◌, ◌≤◌, Bool, true, false, cond, List, [], ◌∷◌, ◌++◌, length, map, Option, Some, None, refl, sym, ap, subst, ◌∙◌, arith}
-use Rattle.std.specs.Prelude.{All, filter_map, bytes_eq, count_by, unwrap_or}
+use Rattle.std.proofs.Common.{◌≡◌, ℕ, suc, zero, ◌+◌, ◌-◌, ◌*◌, ◌/◌, false, cond, List, [], ◌∷◌, length, map, Option, Some, None, refl, sym, ap, subst, ◌∙◌, arith}
+use Rattle.std.specs.Prelude.{filter_map, bytes_eq, count_by, unwrap_or}
 use Rattle.std.specs.List.{concat, cons_option, sum_by}
 use Rattle.std.specs.List.Sorted.{IsSorted, IsPermutation}
 use Rattle.std.specs.Option.{is_some, option_map_or}
-use Rattle.std.specs.Ordering.{eq_by_cmp}
 use Rattle.std.specs.FinMap as finite
 use Rattle.std.proofs.lemmas.Cmp.{nat_list_cmp_total}
 use Rattle.std.proofs.lemmas.List.Elements.{All-same}
@@ -22,10 +21,10 @@ use Rattle.esa_lists.proofs.OrderedLaws.{times-cons}
 use Rattle.esa_lists.proofs.TallyLaws.{entry_of, get-tally, tally-counts}
 use Rattle.esa_lists.proofs.RunsLaws.{runs-nil}
 use Rattle.esa_analyser.specs.declared.kept.Kept.{Kept}
-use Rattle.esa_analyser.specs.Database.{Database, rows_of}
+use Rattle.esa_analyser.specs.Database.{rows_of}
 use Rattle.esa_analyser.specs.Opened.{reported, gives, database_of, count_in}
 use Rattle.esa_analyser.specs.SortKey.{key_value, IsSortKey, row_of}
-use Rattle.esa_analyser.specs.Kept.{keys_of, form_of, capacity_of, values_of, AreSorted}
+use Rattle.esa_analyser.specs.Kept.{keys_of, form_of, capacity_of, values_of}
 use Rattle.esa_analyser.specs.Counted.{Counted}
 use Rattle.esa_analyser.specs.Inside.{counted_in, IsCounted}
 use Rattle.esa_analyser.proofs.KeyRuns.{by_bytes, rows_of-keys, bytes_tie}
@@ -67,7 +66,7 @@ counted_in-list inner old new size number rows room envelopes list size_is numbe
     let long : length envelopes ≡ inner_length (form_of old) * length list = ap length joined ∙ length-concat (inner_length (form_of old)) list have in
     let all : number ≡ length list = number_is ∙ ap (λ n. length envelopes / n) size_is ∙ whole_number (form_of old) (length list) (length envelopes) long in
     let cut : pieces (inner_length (form_of old)) number envelopes ≡ list =
-      (λ i. pieces (inner_length (form_of old)) (all i) (joined i)) ∙ pieces-concat (inner_length (form_of old)) list have in
+    (λ i. pieces (inner_length (form_of old)) (all i) (joined i)) ∙ pieces-concat (inner_length (form_of old)) list have in
     let values : rows_of (values_of new) ≡ rows_of (filter_map (reported inner) list) = rows_are ∙ ap (λ xs. rows_of (filter_map (reported inner) xs)) cut in
     let kept : length (keys_of new) ≡ length (filter_map (reported inner) list) = number_kept ∙ ap (λ xs. length (filter_map (reported inner) xs)) cut in
     λ i. record { form = form i; room = room; database = record { rows = values i; unopened = all i - kept i } }

@@ -1,5 +1,5 @@
 -- The file of kept keys: its header and their rows.
-use Rattle.std.proofs.Common.{◌≡◌, ℕ, ◌≤◌, List, ◌++◌, length, map, refl, sym, ap, ◌∙◌}
+use Rattle.std.proofs.Common.{◌≡◌, ℕ, List, ◌++◌, length, refl, sym, ap, ◌∙◌}
 use Rattle.std.specs.Prelude.{flat_map}
 use Rattle.esa_params.specs.Form.{report_length}
 use Rattle.esa_params.specs.declared.form.Form.{Form}

@@ -1,17 +1,12 @@
 -- Sort keys of values: their values, and their order.
-use Rattle.std.proofs.Common.{◌≡◌, ℕ, ◌+◌, ◌-◌, ◌<◌, ◌≤◌, ◌/◌, ◌%◌, Bool, true, false, List, [], ◌∷◌, ◌++◌, length, take, drop, get_or, replicate, Option, Some, None, Bor, inl, inr, refl, sym, ap, subst, ◌∙◌, arith, append_assoc}
+use Rattle.std.proofs.Common.{◌≡◌, ℕ, ◌+◌, ◌-◌, ◌<◌, ◌≤◌, ◌/◌, ◌%◌, true, List, [], ◌∷◌, ◌++◌, length, take, drop, get_or, replicate, Option, Some, None, Bor, inl, inr, refl, sym, ap, ◌∙◌, arith, append_assoc}
 use Rattle.std.specs.Prelude.{slice_index, IfSome}
-use Rattle.std.specs.Option.{option_map, option_and_then, option_copied, is_some}
+use Rattle.std.specs.Option.{is_some}
 use Rattle.std.specs.Int.{w16, to_be_bytes}
-use Rattle.std.specs.declared.cmp.Ordering.{Ordering}
-use Rattle.std.specs.declared.cmp.Ordering.TheVariants.{Less}
-use Rattle.std.specs.Ordering.{nat_cmp, ordering_then}
-use Rattle.std.specs.Cmp.Lexicographic.{slice_cmp}
-use Rattle.std.proofs.lemmas.List.{take_at, drop_at, length-append, length-replicate, get_or-append-add}
+use Rattle.std.proofs.lemmas.List.{take_at, length-append, length-replicate, get_or-append-add}
 use Rattle.esa_report.specs.Report.{IsReport, IsReportLength, report_of, value_in}
 use Rattle.esa_report.proofs.ReportLemmas.{value_in-IsReport}
 use Rattle.esa_analyser.specs.SortKey.{sort_key, key_value, IsSortKey}
-use Rattle.esa_analyser.proofs.KeyOrder.{padded, order-padded, padded-append}
 
 length-zeros_of : (n : ℕ) → length (replicate {A = ℕ} n 0) ≡ n
 length-zeros_of n = length-replicate {A = ℕ} n 0
@@ -51,7 +46,7 @@ last-sort_key size value fits =
 pub key_value-sort_key : (size : ℕ) (value : List ℕ) → length value + 2 ≤ size → key_value (sort_key size value) ≡ value
 key_value-sort_key size value fits =
     let last : slice_index (sort_key size value) (length (sort_key size value) - 1) ≡ length value =
-      ap (λ n. slice_index (sort_key size value) (n - 1)) (length-sort_key size value fits) ∙ last-sort_key size value fits in
+    ap (λ n. slice_index (sort_key size value) (n - 1)) (length-sort_key size value fits) ∙ last-sort_key size value fits in
     ap (λ n. take n (sort_key size value)) last ∙ front-sort_key size value
 
 -- a report with its length bytes behind the rest is the sort key of its value

@@ -1,20 +1,19 @@
 -- Runs of sort keys: their values' rows.
-use Rattle.std.proofs.Common.{◌≡◌, ℕ, zero, suc, ◌+◌, ◌-◌, ◌<◌, ◌≤◌, Bool, true, false, cond, List, [], ◌∷◌, ◌++◌, length, take, drop, map, get_or, replicate, refl, sym, ap, subst, ◌∙◌, arith, nat_eq, zero-add}
+use Rattle.std.proofs.Common.{◌≡◌, ℕ, zero, suc, ◌+◌, ◌-◌, ◌<◌, ◌≤◌, true, false, cond, List, [], ◌∷◌, ◌++◌, length, drop, map, get_or, replicate, refl, sym, ap, subst, ◌∙◌, arith, nat_eq, zero-add}
 use Rattle.std.specs.Prelude.{All, bytes_eq}
 use Rattle.std.specs.List.{prefix_len}
 use Rattle.std.specs.List.Sorted.{IsSorted, IsPermutation}
 use Rattle.std.specs.declared.cmp.Ordering.{Ordering}
-use Rattle.std.specs.declared.cmp.Ordering.TheVariants.{Less, Equal, Greater}
+use Rattle.std.specs.declared.cmp.Ordering.TheVariants.{Less, Equal}
 use Rattle.std.specs.Ordering.{nat_cmp, eq_by_cmp, is_eq, is_lt, ordering_then}
 use Rattle.std.specs.Cmp.Lexicographic.{slice_cmp, lists_ties}
 use Rattle.std.specs.FinMap as finite
-use Rattle.std.proofs.lemmas.Cmp.{tied_itself, nat_list_cmp_total, nat_list_eq_equiv}
+use Rattle.std.proofs.lemmas.Cmp.{nat_list_cmp_total, nat_list_eq_equiv}
 use Rattle.std.proofs.lemmas.Bool.Decides.{nat_tests}
 use Rattle.std.proofs.lemmas.List.{get_or-map, length-map}
 use Rattle.std.proofs.lemmas.List.Elements.{All-cons, All-head, All-tail, All-get_or}
 use Rattle.std.proofs.lemmas.List.Sums.{prefix_len_is}
-use Rattle.std.proofs.lemmas.List.Sorted.{IsPermutation-map, All-permutation, length_permutation}
-use Rattle.esa_lists.specs.Tally.{tally, runs, count_first}
+use Rattle.esa_lists.specs.Tally.{runs, count_first}
 use Rattle.esa_lists.proofs.FilesLaws.{names_apart}
 use Rattle.esa_lists.proofs.TallyLaws.{tally-permutation}
 use Rattle.esa_lists.proofs.RunsLaws.{runs-nil, runs-cons, runs-run, entries-tally_sorted}
@@ -46,6 +45,7 @@ order-keys size x y first second =
   where
     short : (n : ℕ) → n + 2 ≤ size → n ≤ size - 2
     short n fits = omega arith
+
     as_padded : {key : List ℕ} → IsSortKey size key → padded mark (size - 2) 0 (key_value key) ≡ key
     as_padded {key} is = sym (is.spelled ∙ sort_key-padded size (key_value key) is.fits)
 
@@ -73,10 +73,10 @@ one_first size x (run ∷ key_runs) is are =
     let tie : eq_by_cmp by_bytes (key_value x) (key_value run.0) ≡ eq_by_cmp by_bytes x run.0 = ap is_eq (order-keys size x run.0 is (All-head Key run key_runs are)) in
     let more = map row_of key_runs in
     subst (λ b. RowsOfRuns size (cond b ((key_value x, run.1 + 1) ∷ more) ((key_value x, 1) ∷ row_of run ∷ more)) (cond (eq_by_cmp by_bytes x run.0) ((x, run.1 + 1) ∷ key_runs) ((x, 1) ∷ run ∷ key_runs))) (sym tie)
-      (elim (eq_by_cmp by_bytes x run.0) as (λ b. RowsOfRuns size (cond b ((key_value x, run.1 + 1) ∷ more) ((key_value x, 1) ∷ row_of run ∷ more)) (cond b ((x, run.1 + 1) ∷ key_runs) ((x, 1) ∷ run ∷ key_runs))) [
-        | true ↦ record { rows_are = refl; keys_are = All-cons Key (x, run.1 + 1) key_runs is (All-tail Key run key_runs are) }
-        | false ↦ record { rows_are = refl; keys_are = All-cons Key (x, 1) (run ∷ key_runs) is are }
-      ])
+    (elim (eq_by_cmp by_bytes x run.0) as (λ b. RowsOfRuns size (cond b ((key_value x, run.1 + 1) ∷ more) ((key_value x, 1) ∷ row_of run ∷ more)) (cond b ((x, run.1 + 1) ∷ key_runs) ((x, 1) ∷ run ∷ key_runs))) [
+      | true ↦ record { rows_are = refl; keys_are = All-cons Key (x, run.1 + 1) key_runs is (All-tail Key run key_runs are) }
+      | false ↦ record { rows_are = refl; keys_are = All-cons Key (x, 1) (run ∷ key_runs) is are }
+    ])
 
 runs-values : (size : ℕ) (keys : List (List ℕ)) → All (IsSortKey size) keys → RowsOfRuns size (runs by_bytes (map key_value keys)) (runs by_bytes keys)
 runs-values size [] are = subst (λ empty. RowsOfRuns size (empty) (empty)) (sym (runs-nil by_bytes)) (record { rows_are = refl; keys_are = λ k d below. absurd (omega arith) })
@@ -84,9 +84,9 @@ runs-values size (x ∷ xs) are =
     let rest = runs-values size xs (All-tail (IsSortKey size) x xs are) in
     let first = one_first size x (runs by_bytes xs) (All-head (IsSortKey size) x xs are) rest.keys_are in
     let rows : runs by_bytes (map key_value (x ∷ xs)) ≡ count_first by_bytes (key_value x) (map row_of (runs by_bytes xs)) =
-      runs-cons by_bytes (key_value x) (map key_value xs) ∙ ap (count_first by_bytes (key_value x)) rest.rows_are in
+    runs-cons by_bytes (key_value x) (map key_value xs) ∙ ap (count_first by_bytes (key_value x)) rest.rows_are in
     subst (λ key_runs. RowsOfRuns size (runs by_bytes (map key_value (x ∷ xs))) key_runs) (sym (runs-cons by_bytes x xs))
-      (subst (λ rows. RowsOfRuns size rows (count_first by_bytes x (runs by_bytes xs))) (sym rows) first)
+    (subst (λ rows. RowsOfRuns size rows (count_first by_bytes x (runs by_bytes xs))) (sym rows) first)
 
 -- the rows of sorted keys' values are the keys' runs
 pub rows_of-keys : (size : ℕ) (keys : List (List ℕ)) → All (IsSortKey size) keys → IsSorted by_bytes keys → rows_of (map key_value keys) ≡ map row_of (runs by_bytes keys)
@@ -110,8 +110,8 @@ run_at keys zero some inside same ends = absurd (omega arith)
 run_at [] (suc n) some inside same ends = absurd (omega arith)
 run_at (x ∷ xs) (suc n) some inside same ends =
     let run : prefix_len (eq_by_cmp by_bytes x) xs ≡ n = prefix_len_is (eq_by_cmp by_bytes x) xs n [] (omega arith)
-      (λ k below. bytes_tie x (get_or xs k []) ∙ same (suc k) (omega arith))
-      (λ below. bytes_tie x (get_or xs n []) ∙ ends (omega arith)) in
+    (λ k below. bytes_tie x (get_or xs k []) ∙ same (suc k) (omega arith))
+    (λ below. bytes_tie x (get_or xs n []) ∙ ends (omega arith)) in
     let one_more : 1 + n ≡ suc n = omega arith in
     runs-run nat_list_cmp_total names_apart x xs
     ∙ ap (λ p. (x, 1 + p) ∷ runs by_bytes (drop p xs)) run

@@ -1,6 +1,6 @@
 -- A row, written field by field.
-use Rattle.std.proofs.Common.{◌≡◌, ℕ, suc, ◌+◌, ◌-◌, ◌<◌, ◌≤◌, List, [], ◌∷◌, ◌++◌, length, take, drop, set, refl, sym, ap, ◌∙◌, arith}
-use Rattle.std.proofs.lemmas.List.{take_more_set, length-set, length-take, length-append}
+use Rattle.std.proofs.Common.{◌≡◌, ℕ, ◌+◌, ◌-◌, ◌<◌, ◌≤◌, List, [], ◌∷◌, ◌++◌, length, take, set, refl, ap, ◌∙◌, arith}
+use Rattle.std.proofs.lemmas.List.{length-set, length-take, length-append}
 use Rattle.std.proofs.lemmas.Slice.{take-put_mid}
 use borrow.Rule.Slice.PartMut.{put_mid}
 use Rattle.std.specs.Int.{w32, to_be_bytes}
@@ -18,7 +18,7 @@ take-row value out first last count short room first_is last_is =
     let inner = put_mid 1 (1 + length value - 1) started first in
     let front : take (1 + length value) inner ≡ take 1 started ++ first = take-put_mid 1 (1 + length value - 1) started first (1 + length value) (omega (arith, ap length first_is)) (omega arith) in
     let long : 1 + length value ≤ length inner =
-      omega (arith, ap length front, length-take (1 + length value) inner, length-append (take 1 started) first, length-take 1 started, ap length first_is) in
+    omega (arith, ap length front, length-take (1 + length value) inner, length-append (take 1 started) first, length-take 1 started, ap length first_is) in
     let head : take 1 started ≡ length value ∷ [] = first_set out (length value) (omega arith) in
     take-put_mid (1 + length value) (1 + length value + 4 - (1 + length value)) inner last (1 + length value + 4) (omega (arith, ap length last_is)) long
     ∙ (λ i. (front ∙ ap (λ ys. ys ++ first) head) i ++ last_is i)

@@ -1,12 +1,11 @@
 -- Rows that are put one after another.
-use Rattle.std.proofs.Common.{ℕ, ◌+◌, ◌<◌, List, [], ◌∷◌, ◌++◌, length, drop, map as map_list, get_or, Option, Some, None, Result, Ok, Err, refl, sym, ap, subst, ◌∙◌, arith, append_assoc, append-nil}
-use Rattle.std.specs.Prelude.{◌≡◌, ◌⊎◌, ◌≤◌, flat_map, All, OnOk, OnErr}
+use Rattle.std.proofs.Common.{ℕ, ◌+◌, ◌<◌, List, [], ◌∷◌, ◌++◌, length, drop, map as map_list, get_or, Option, Some, None, Result, Ok, Err, sym, ap, subst, ◌∙◌, arith, append_assoc, append-nil}
+use Rattle.std.specs.Prelude.{◌≡◌, ◌⊎◌, flat_map, All, OnOk, OnErr}
 use Rattle.std.specs.FinMap as map
 use Rattle.std.proofs.lemmas.Result.{on_ok_weaker, on_err_weaker}
 use Rattle.esa_outside.specs.Told.{HoldsFront}
 use Rattle.esa_params.specs.declared.form.Form.{Form}
-use Rattle.esa_params.specs.declared.form.Form.TheVariants.{One, Two}
-use Rattle.esa_analyser.specs.Database.{Database, longest}
+use Rattle.esa_analyser.specs.Database.{Database}
 use Rattle.std.proofs.lemmas.List.{get_or-drop, length-drop, drop_more}
 use Rattle.esa_lists.specs.Files.{Files}
 use Rattle.esa_lists.specs.Tally.{runs}

@@ -1,7 +1,7 @@
 -- What an `Analysis` stands for.
-use Rattle.std.specs.Prelude.{◌≡◌, ℕ, ◌-◌, ◌≤◌, ◌<◌, ◌^◌, length}
+use Rattle.std.specs.Prelude.{◌≡◌, ◌-◌, ◌≤◌, ◌<◌, ◌^◌, length}
 use Rattle.esa_analyser.specs.declared.analysis.Analysis.TheInside.{Inside}
-use Rattle.esa_analyser.specs.Database.{Database, rows_of}
+use Rattle.esa_analyser.specs.Database.{rows_of}
 use Rattle.esa_analyser.specs.Counted.{Counted}
 use Rattle.esa_analyser.specs.Kept.{keys_of, form_of, capacity_of, values_of, AreSorted}
 

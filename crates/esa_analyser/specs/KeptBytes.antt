@@ -1,7 +1,7 @@
 -- The file of the database that is kept.
 use Rattle.std.specs.Prelude.{ℕ, List}
 use Rattle.esa_analyser.specs.declared.kept.Kept.{Kept}
-use Rattle.esa_analyser.specs.Database.{Database, rows_of}
+use Rattle.esa_analyser.specs.Database.{rows_of}
 use Rattle.esa_analyser.specs.Rows.{database_bytes}
 use Rattle.esa_analyser.specs.Kept.{form_of, values_of}
 

@@ -7,9 +7,9 @@ ghost use Rattle.esa_analyser.specs.Histogram.{shown, hex_digit, placed, row_tex
 use esa_bytes::put_decimal;
 use std::marker::Model;
 
-/// The room of a line, in bytes: a count of up to 20 digits, a space, and a value of 190 bytes, each shown
+/// The room of a line, in bytes: ten places and 20 digits, a space, and a value of 190 bytes, each shown
 /// in up to four.
-const LINE: usize = 781;
+const LINE: usize = 791;
 
 /// A line that is made piece by piece.
 #[derive(Drop)]

@@ -21,7 +21,21 @@ pub(crate) fn front(form: Form, rows: u32, unopened: u32) -> [u8; 13]
 {
     let [r0, r1, r2, r3] = rows.to_be_bytes();
     let [u0, u1, u2, u3] = unopened.to_be_bytes();
-    [b'E', b'S', b'A', b'D', version_of(form), r0, r1, r2, r3, u0, u1, u2, u3]
+    [
+        b'E',
+        b'S',
+        b'A',
+        b'D',
+        version_of(form),
+        r0,
+        r1,
+        r2,
+        r3,
+        u0,
+        u1,
+        u2,
+        u3,
+    ]
 }
 
 /// Writes a row to the front of `out` and answers its length, in bytes.

@@ -17,12 +17,7 @@ use esa_page::Page;
 use esa_params::Form;
 
 /// Puts the rows of a database behind the bytes that wait in the page.
-fn put_rows<K: Cabinet>(
-    db: &Db,
-    page: &mut Page,
-    cabinet: &mut K,
-    name: &str,
-) -> Result<(), Failed>
+fn put_rows<K: Cabinet>(db: &Db, page: &mut Page, cabinet: &mut K, name: &str) -> Result<(), Failed>
     ensures added { (before : Option Files) (text : List ℕ)
         → IsUnderway before name.now text page.old (K.told cabinet.old)
         → OnOk result (IsUnderway before name.now (text ++ flat_map row_bytes db.now.database.rows) page.new (K.told cabinet.new)) }

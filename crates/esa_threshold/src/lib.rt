@@ -11,3 +11,6 @@ mod refused;
 pub use envelopes::{Envelopes, Forwarded};
 pub use forward::{MOST_RECORDS, forward_header, read_forward};
 pub use refused::ForwardRefused;
+
+#[cfg(test)]
+mod tests;

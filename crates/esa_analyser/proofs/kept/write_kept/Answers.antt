@@ -29,7 +29,7 @@ returns-clause-whole g c =
     let parts = kept_parts c.args.kept.now c.form.result c.front.result c.args.rows c.args.unopened c.requires.sorted c.form.ensures c.front.ensures c.requires.rows in
     let under = c.in_ok-put-2.ensures.added before c.front.result (c.in_ok-put.ensures.added before [] c.in_ok-page.ensures.started) in
     subst (λ text. OnOk c.finish.result (IsWhole before c.args.name.now text (g.K.Cabinet.told c.finish.new.cabinet))) parts
-      (c.finish.ensures.whole before (c.front.result ++ run_bytes (keys_of c.args.kept.now)) under)
+    (c.finish.ensures.whole before (c.front.result ++ run_bytes (keys_of c.args.kept.now)) under)
 
 pub returns-clause-left : goal.returns-clause-left
 returns-clause-left g c =
@@ -37,4 +37,4 @@ returns-clause-left g c =
     let parts = kept_parts c.args.kept.now c.form.result c.front.result c.args.rows c.args.unopened c.requires.sorted c.form.ensures c.front.ensures c.requires.rows in
     let under = c.in_ok-put-2.ensures.added before c.front.result (c.in_ok-put.ensures.added before [] c.in_ok-page.ensures.started) in
     subst (λ text. OnErr c.finish.result (IsLeft before c.args.name.now text (g.K.Cabinet.told c.finish.new.cabinet))) parts
-      (c.finish.ensures.failed before (c.front.result ++ run_bytes (keys_of c.args.kept.now)) under)
+    (c.finish.ensures.failed before (c.front.result ++ run_bytes (keys_of c.args.kept.now)) under)

@@ -19,7 +19,7 @@ pub returns-clause-added : goal.returns-clause-added
 returns-clause-added g c = λ before text under.
     let so_far = c.loop-rest.invariant.so_far.2 before text under in
     underway_all before c.args.name.now text c.loop-rest.invariant.so_far.0 _ _ c.loop-rest.page (g.K.Cabinet.told c.loop-rest.cabinet) c.loop-rest.invariant.so_far.1
-      (no_run_bytes c.loop-rest.rest.now (same_number _ _ (sym c.loop-rest-test.ensures))) so_far.0
+    (no_run_bytes c.loop-rest.rest.now (same_number _ _ (sym c.loop-rest-test.ensures))) so_far.0
 
 pub loop-rest-preserved : goal.loop-rest-preserved
 loop-rest-preserved g c =
@@ -34,10 +34,13 @@ loop-rest-preserved g c =
     record {
       keys = all_behind (IsSortKey g.row.P) equal rest others c.split_at.ensures.back c.loop-rest.invariant.keys;
       few = omega (arith, ap length c.split_at.ensures.back, length-drop equal rest, c.loop-rest.invariant.few);
-      so_far = (done ++ row,
+      so_far = (
+        done ++ row,
         run_step (run_bytes c.args.keys.now) rest others value c.index-rest-0.result equal done c.loop-rest.invariant.so_far.1 c.run_length-equal.ensures.run c.split_at.ensures.back c.value.ensures first,
         λ before text under.
-          let so_far = c.loop-rest.invariant.so_far.2 before text under in
-          (underway_more before c.args.name.now text done row c.put_row.new.page (g.K.Cabinet.told c.put_row.new.cabinet) (c.in_ok-put_row.ensures.added before (text ++ done) so_far.0),
-            (c.in_ok-put_row.ensures.cause before (text ++ done) so_far.0).kept ∙ so_far.1));
+            let so_far = c.loop-rest.invariant.so_far.2 before text under in (
+              underway_more before c.args.name.now text done row c.put_row.new.page (g.K.Cabinet.told c.put_row.new.cabinet) (c.in_ok-put_row.ensures.added before (text ++ done) so_far.0),
+              (c.in_ok-put_row.ensures.cause before (text ++ done) so_far.0).kept ∙ so_far.1,
+            ),
+      );
     }

@@ -11,7 +11,7 @@ invariant-loop-rest g l = record {
   keys : All (IsSortKey g.row.P) l.rest;
   few : length l.rest ≤ length l.keys;
   so_far : (done : List ℕ) × (run_bytes l.keys ≡ done ++ run_bytes l.rest)
-    × ((before : Option Files) (text : List ℕ) → IsUnderway before l.name text l.initial.page (g.K.Cabinet.told l.initial.cabinet)
+      × ((before : Option Files) (text : List ℕ) → IsUnderway before l.name text l.initial.page (g.K.Cabinet.told l.initial.cabinet)
       → IsUnderway before l.name (text ++ done) l.page (g.K.Cabinet.told l.cabinet) × (g.K.Cabinet.faults l.cabinet ≡ g.K.Cabinet.faults l.initial.cabinet));
 }
 

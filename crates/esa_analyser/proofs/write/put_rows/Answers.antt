@@ -1,4 +1,4 @@
-use Rattle.std.proofs.Common.{◌++◌, [], refl, sym, ap, ◌∙◌}
+use Rattle.std.proofs.Common.{◌++◌, [], refl, ◌∙◌}
 use Rattle.std.proofs.lemmas.Result.{err_from_is_err_and}
 use Rattle.esa_analyser.specs.Rows.{row_bytes}
 use Rattle.esa_analyser.proofs.RunWriting.{row_step, underway_none, underway_more, left_whole}
@@ -17,10 +17,12 @@ returns-in_err-put_row-clause-failed g c = λ before text under.
 pub loop-row-preserved : goal.loop-row-preserved
 loop-row-preserved g c =
     let done = c.loop-row.invariant.0 in
-    let row = row_bytes (c.value.result.now, c.count.result) in
-    (done ++ row,
+    let row = row_bytes (c.value.result.now, c.count.result) in (
+      done ++ row,
       row_step _ c.args.db.now.database.rows c.loop-row.row c.value.result.now c.count.result done c.loop-row.invariant.1 (rw (← c.rows-row-end.ensures) c.loop-row-test.true) c.value.ensures.value c.count.ensures,
       λ before text under.
-        let so_far = c.loop-row.invariant.2 before text under in
-        (underway_more before c.args.name.now text done row c.put_row.new.page (g.K.Cabinet.told c.put_row.new.cabinet) (c.in_ok-put_row.ensures.added before (text ++ done) so_far.0),
-          (c.in_ok-put_row.ensures.cause before (text ++ done) so_far.0).kept ∙ so_far.1))
+          let so_far = c.loop-row.invariant.2 before text under in (
+            underway_more before c.args.name.now text done row c.put_row.new.page (g.K.Cabinet.told c.put_row.new.cabinet) (c.in_ok-put_row.ensures.added before (text ++ done) so_far.0),
+            (c.in_ok-put_row.ensures.cause before (text ++ done) so_far.0).kept ∙ so_far.1,
+          ),
+    )

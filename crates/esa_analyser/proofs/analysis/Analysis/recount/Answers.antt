@@ -1,6 +1,5 @@
-use Rattle.std.proofs.Common.{◌≡◌, ◌/◌, ℕ, List, length, refl, ap, ◌∙◌}
+use Rattle.std.proofs.Common.{◌/◌, length, refl, ap, ◌∙◌}
 use Rattle.esa_params.specs.Form.{inner_length}
-use Rattle.esa_analyser.specs.Kept.{form_of}
 use Rattle.esa_analyser.proofs.Counting.{Steps, steps-counted}
 use Rattle.esa_analyser.proofs.analysis.Analysis.recount.Goals as goal
 

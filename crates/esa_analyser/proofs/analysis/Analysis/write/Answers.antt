@@ -1,8 +1,6 @@
-use Rattle.std.proofs.Common.{◌≡◌, ap, subst, arith}
+use Rattle.std.proofs.Common.{subst, arith}
 use Rattle.std.specs.Prelude.{OnOk, OnErr}
 use Rattle.esa_page.specs.Underway.{IsWhole, IsLeft}
-use Rattle.esa_analyser.specs.Rows.{database_bytes}
-use Rattle.esa_analyser.specs.KeptBytes.{kept_bytes}
 use Rattle.esa_analyser.proofs.RunWriting.{OnOk-whole, OnErr-left, silent-still}
 use Rattle.esa_analyser.proofs.KeptWriting.{kept_file}
 use Rattle.esa_analyser.proofs.analysis.Analysis.write.Goals as goal
