@@ -6,3 +6,4 @@ pub mod JobCommand
 pub mod TakingExits
 pub mod Tops
 pub mod Counts
+pub mod Upgrades

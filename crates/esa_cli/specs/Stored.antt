@@ -6,6 +6,7 @@ use Rattle.esa_job.specs.declared.command.Command.TheVariants.{Histogram, Upgrad
 use Rattle.esa_job.specs.declared.field.JobField.TheVariants as field
 use Rattle.esa_job.specs.Request.{Request}
 use Rattle.esa_analyser.specs.Stored.{Stored}
+use Rattle.esa_analyser.specs.Histogram.{histogram_text}
 use Rattle.esa_cli.specs.Analyse.{database_work}
 use Rattle.esa_cli.specs.Step.{Step, ◌>>=◌, accepted, refused, missing, Reads}
 use Rattle.esa_cli.specs.Taking.{name_of, job_file, database_file}
@@ -21,7 +22,7 @@ load_steps command name read = job_file command false name read >>= load_asked c
 
 -- nothing is written, and the database is printed for people
 abbrev pub histogram_work : Request × Stored → Work
-histogram_work loaded = record { writes = []; prints = [] }
+histogram_work loaded = record { writes = []; prints = histogram_text loaded.1.database }
 
 abbrev pub histogram_steps : List ℕ → Reads → Step Work
 histogram_steps name read = load_steps Histogram name read >>= λ loaded. accepted (histogram_work loaded)

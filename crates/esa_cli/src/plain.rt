@@ -13,6 +13,7 @@ use crate::call::{Call, call_of};
 use crate::refusal::Refusal;
 use crate::status::Status;
 use crate::stop::Stop;
+use crate::stored::{histogram, upgrade};
 use crate::telling::tell;
 use esa_job::Command;
 use esa_outside::{Cabinet, Printer, Role};
@@ -30,6 +31,8 @@ fn run<K: Cabinet, P: Printer>(
 {
     match call.command {
         Command::Analyse => analyse(alloc, cabinet, printer, call.job),
+        Command::Histogram => histogram(alloc, cabinet, printer, call.job),
+        Command::Upgrade => upgrade(alloc, cabinet, printer, call.job),
         command => Err(Stop::Refused(Refusal::NotBuilt(command))),
     }
 }
