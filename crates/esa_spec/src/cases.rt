@@ -46,6 +46,7 @@ fn form_two_sizes()
 
 // Two workers: bucket 1 is exchanged first.
 fn two_workers()
+    ensures count { length (trace (record base { workers = 2 }) (λ _. draw_of base base_targets) ((0 ∷ 1 ∷ 1 ∷ 1 ∷ 0 ∷ 1 ∷ 0 ∷ 1 ∷ 0 ∷ 1 ∷ 0 ∷ []) ∷ [])) ≡ 22 }
     ensures turns { full (record base { workers = 2 }) (draw_of base base_targets) (0 ∷ 1 ∷ 1 ∷ 1 ∷ [])
         ≡ 0 ∷ 1 ∷ 1 ∷ 1 ∷ 0 ∷ 1 ∷ 0 ∷ 1 ∷ 0 ∷ 1 ∷ 0 ∷ [] }
     ensures exchanges { order 2 (0 ∷ 1 ∷ 1 ∷ 1 ∷ 0 ∷ 1 ∷ 0 ∷ 1 ∷ 0 ∷ 1 ∷ 0 ∷ []) ≡ 1 ∷ 0 ∷ [] }
@@ -72,6 +73,7 @@ fn stash_zero()
 
 // The stash is exactly full, twice.
 fn stash_exactly_full()
+    ensures turns { completed_from_none (record base { s = 1 }) base_targets ≡ replicate 10 0 }
     ensures full_at_first { stashed (record base { s = 1 }) (draw_of base base_targets) (0 ∷ 1 ∷ []) 1 ≡ 1 }
     ensures full_again { stashed (record base { s = 1 }) (draw_of base base_targets) (0 ∷ 1 ∷ []) 2 ≡ 1 }
     ensures verdict { verdict (record base { s = 1 }) (draw_of base base_targets) (replicate 10 0) ≡ Good }
@@ -95,12 +97,15 @@ fn queue_starved()
 
 // All places are in intermediate bucket 0, which is one more than the queue holds.
 fn queue_overflow()
+    ensures turns { completed_from_none (record no_stash { w = 1; q = 3 }) (replicate 4 0) ≡ replicate 10 0 }
     ensures verdict { verdict (record no_stash { w = 1; q = 3 }) (draw_of no_stash (replicate 4 0)) (replicate 10 0) ≡ QueueOverflow 0 }
     ensures count { length (trace (record no_stash { w = 1; q = 3 }) (λ _. draw_of no_stash (replicate 4 0)) (replicate 10 0 ∷ [])) ≡ 13 }
 {}
 
 // One record in four buckets, three of which are empty.
 fn empty_buckets()
+    ensures places { places (record no_stash { n = 1; b = 4; c = 1; w = 4; q = 1 }) (draw_of (record no_stash { n = 1; b = 4; c = 1; w = 4; q = 1 }) (3 ∷ [])) (replicate 28 0)
+        ≡ 0 ∷ [] }
     ensures sizes { map (size (record no_stash { n = 1; b = 4; c = 1; w = 4; q = 1 })) (below 4) ≡ 1 ∷ 0 ∷ 0 ∷ 0 ∷ [] }
     ensures lengths { map (length_at (record no_stash { n = 1; b = 4; c = 1; w = 4; q = 1 })) (below 4) ≡ 216 ∷ 40 ∷ 40 ∷ 40 ∷ [] }
     ensures turns { completed_from_none (record no_stash { n = 1; b = 4; c = 1; w = 4; q = 1 }) (3 ∷ []) ≡ replicate 28 0 }
@@ -121,6 +126,10 @@ fn repeated_envelope()
 // The first attempt overflows the stash, and the second one, with other targets, succeeds. The chunks of the second
 // attempt have nonces of their own.
 fn second_attempt()
+    ensures first_turns { completed_from_none (record base { s = 0; attempts = 2 }) base_targets ≡ replicate 3 0 }
+    ensures first_verdict { verdict (record base { s = 0; attempts = 2 }) (draw_of base base_targets) (replicate 3 0) ≡ StashOverflow 0 }
+    ensures second_turns { completed_from_none (record base { s = 0; attempts = 2 }) (0 ∷ 1 ∷ 0 ∷ 1 ∷ []) ≡ replicate 10 0 }
+    ensures second_verdict { verdict (record base { s = 0; attempts = 2 }) (draw_of base (0 ∷ 1 ∷ 0 ∷ 1 ∷ [])) (replicate 10 0) ≡ Good }
     ensures places { places (record base { s = 0; attempts = 2 }) (draw_of base (0 ∷ 1 ∷ 0 ∷ 1 ∷ [])) (replicate 10 0) ≡ 0 ∷ 2 ∷ 1 ∷ 3 ∷ [] }
     ensures count { length (trace (record base { s = 0; attempts = 2 }) (two_draws base base_targets (0 ∷ 1 ∷ 0 ∷ 1 ∷ [])) (replicate 3 0 ∷ replicate 10 0 ∷ [])) ≡ 23 }
     ensures chunk_nonces { map nonce (slice_range (trace (record base { s = 0; attempts = 2 }) (two_draws base base_targets (0 ∷ 1 ∷ 0 ∷ 1 ∷ [])) (replicate 3 0 ∷ replicate 10 0 ∷ [])) 3 9)
