@@ -1,3 +1,4 @@
+pub use Rattle.hex.specs.Hex
 pub mod Decimal
 pub mod Field
 pub mod Hexadecimal

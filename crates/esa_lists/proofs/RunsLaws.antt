@@ -11,9 +11,10 @@ use Rattle.std.specs.FinMap as map
 use Rattle.std.specs.FinMap.{IsAntisymmetric}
 use Rattle.std.specs.FinMap.Entries.{put, by_order}
 use Rattle.std.proofs.lemmas.List.Sums.{sum_by-cons}
+use Rattle.std.proofs.lemmas.List.Sorted.{length_permutation}
 use Rattle.esa_lists.specs.Ordered.{ordered}
 use Rattle.esa_lists.specs.Tally.{times, tally, runs, count_first}
-use Rattle.esa_lists.proofs.OrderedLaws.{NoneLess, Rises, Rises-from_sorted, Rises-ordered, not_less}
+use Rattle.esa_lists.proofs.OrderedLaws.{times-cons, IsPermutation-ordered, NoneLess, Rises, Rises-from_sorted, Rises-ordered, not_less}
 use Rattle.esa_lists.proofs.TallyLaws.{entry_of, get-tally, tally-ordered}
 
 tally-nil : {X : Type 0} (R : X → X → Ordering) → tally R [] ≡ map.empty
@@ -143,6 +144,25 @@ module _ {X : Type 0} {R : X → X → Ordering} (o : IsTotalOrder R) (same : Is
   -- those of any list's tally are the runs of the list in order
   pub entries-tally : (xs : List X) → map.entries (tally R xs) ≡ runs R (ordered R xs)
   entries-tally xs = ap map.entries (sym (tally-ordered o same xs)) ∙ entries-tally_rises (ordered R xs) (Rises-ordered o xs)
+
+  times-prefix : (x : X) (xs : List X) → NoneLess R x xs → Rises R xs → times R x xs ≡ prefix_len (eq_by_cmp R x) xs
+  times-prefix x [] none up = refl
+  times-prefix x (y ∷ ys) none up =
+      elim (R x y) as (λ r. R x y ≡ r → times R x (y ∷ ys) ≡ cond (is_eq r) (1 + prefix_len (eq_by_cmp R x) ys) 0) [
+        | Less ↦ λ e. none_below x y ys e up.0
+        | Equal ↦ λ e. times-cons R x y ys ∙ ap (λ r. cond (is_eq r) 1 0 + times R x ys) e ∙ ap (λ n. 1 + n) (times-prefix x ys none.1 up.1)
+        | Greater ↦ λ e. cc (none.0, ap is_lt (o.antisymm y x ∙ ap ordering_reverse e))
+      ] refl
+
+  -- how often the first element of a rising list stands there is the length of its run
+  pub times-run : (x : X) (xs : List X) → IsSorted R (x ∷ xs) → times R x (x ∷ xs) ≡ 1 + prefix_len (eq_by_cmp R x) xs
+  times-run x xs up =
+      let rises = Rises-from_sorted o (x ∷ xs) up in
+      times-cons R x x xs ∙ ap (λ r. cond (is_eq r) 1 0 + times R x xs) (tied_itself o x) ∙ ap (λ n. 1 + n) (times-prefix x xs rises.0 rises.1)
+
+  -- the counts of a tally make up the list
+  pub total-tally : (xs : List X) → sum_by (λ row. row.1) (map.entries (tally R xs)) ≡ length xs
+  total-tally xs = ap (sum_by (λ row. row.1)) (entries-tally xs) ∙ total-runs R (ordered R xs) ∙ length_permutation xs (ordered R xs) (IsPermutation-ordered R xs)
 
   -- a run: x and the elements after it that tie with x
   pub runs-run : (x : X) (xs : List X) → runs R (x ∷ xs) ≡ (x, 1 + prefix_len (eq_by_cmp R x) xs) ∷ runs R (drop (prefix_len (eq_by_cmp R x) xs) xs)

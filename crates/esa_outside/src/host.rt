@@ -1,68 +1,109 @@
 //! The files of the machine and its standard output. A few lines each, which tell nothing of what the
 //! machine holds: what they give and take is the machine's.
 
-ghost use Rattle.std.specs.Prelude.{None};
+ghost use Rattle.std.specs.Prelude.{◌≡◌, ℕ, None};
 ghost use Rattle.esa_outside.specs.Cause.{HasCause};
 
 use crate::{Cabinet, Failed, Printer};
 use std::fs::{File, OpenOptions};
 use std::io::{self, Read, Seek, SeekFrom, Write};
+use std::marker::Model;
 use std::rt::Files;
 
-/// The files of the machine, each by its path.
+/// The files of the machine, each by its path. It is seen as its count of faults.
 #[derive(Drop)]
 pub struct HostCabinet<R> {
     rt: R,
     faults: u64,
 }
 
+impl<R> Model for HostCabinet<R> {
+    ghost Value = { ℕ };
+
+    ghost view = { λ cabinet. cabinet.faults };
+}
+
 impl<R: Files + Drop> HostCabinet<R> {
     /// A cabinet over the runtime's files.
-    pub fn make(rt: R) -> HostCabinet<R> {
-        HostCabinet { rt, faults: 0 }
-    }
-
-    // Counts a fault where the machine answered an error.
-    fn counted<T: Drop>(&mut self, answer: io::Result<T>) -> Result<T, Failed>
-        ensures { HasCause self.old.faults self.new.faults ⊥ result }
+    pub fn make(rt: R) -> HostCabinet<R>
+        ensures { result ≡ 0 }
     {
-        match answer {
-            Ok(value) => Ok(value),
-            Err(_) => {
-                self.faults = self.faults.saturating_add(1);
-                Err(Failed)
-            }
-        }
+        HostCabinet { rt, faults: 0 }
     }
 }
 
 impl<R: Files + Drop> Cabinet for HostCabinet<R> {
     ghost told = { λ _. None };
 
-    ghost faults = { λ cabinet. cabinet.faults };
+    ghost faults = { λ faults. faults };
 
     fn faults(&self) -> u64 {
         self.faults
     }
 
     fn length(&mut self, name: &str) -> Result<u64, Failed> {
-        let answer = length(&self.rt, name);
-        self.counted(answer)
+        counted(&mut self.faults, length(&self.rt, name))
     }
 
     fn read_at(&mut self, name: &str, at: u64, out: &mut [u8]) -> Result<(), Failed> {
-        let answer = read_at(&self.rt, name, at, out);
-        self.counted(answer)
+        counted(&mut self.faults, read_at(&self.rt, name, at, out))
     }
 
     fn start(&mut self, name: &str) -> Result<(), Failed> {
-        let answer = start(&self.rt, name);
-        self.counted(answer)
+        counted(&mut self.faults, start(&self.rt, name))
     }
 
     fn append(&mut self, name: &str, bytes: &[u8]) -> Result<(), Failed> {
-        let answer = append(&self.rt, name, bytes);
-        self.counted(answer)
+        counted(&mut self.faults, append(&self.rt, name, bytes))
+    }
+}
+
+/// The standard output. It is seen as its count of faults.
+#[derive(Drop)]
+pub struct HostPrinter<R> {
+    rt: R,
+    faults: u64,
+}
+
+impl<R> Model for HostPrinter<R> {
+    ghost Value = { ℕ };
+
+    ghost view = { λ printer. printer.faults };
+}
+
+impl<R: Print + Drop> HostPrinter<R> {
+    /// A printer over the runtime's standard output.
+    pub fn make(rt: R) -> HostPrinter<R>
+        ensures { result ≡ 0 }
+    {
+        HostPrinter { rt, faults: 0 }
+    }
+}
+
+impl<R: Print + Drop> Printer for HostPrinter<R> {
+    ghost told = { λ _. None };
+
+    ghost faults = { λ faults. faults };
+
+    fn faults(&self) -> u64 {
+        self.faults
+    }
+
+    fn line(&mut self, text: &[u8]) -> Result<(), Failed> {
+        counted(&mut self.faults, print(&self.rt, text))
+    }
+}
+
+// Counts a fault where the machine answered an error.
+fn counted<T: Drop>(faults: &mut u64, answer: io::Result<T>) -> Result<T, Failed>
+    ensures { HasCause faults.old faults.new ⊥ result }
+{
+    match answer {
+        Ok(value) => Ok(value),
+        Err(_) => {
+            *faults = faults.saturating_add(1);
+            Err(Failed)
+        }
     }
 }
 
@@ -84,40 +125,6 @@ fn start<R: Files>(rt: &R, name: &str) -> io::Result<()> {
 fn append<R: Files>(rt: &R, name: &str, bytes: &[u8]) -> io::Result<()> {
     let mut file = OpenOptions::new().append(true).open(rt, name)?;
     file.write_all(bytes)
-}
-
-/// The standard output.
-#[derive(Drop)]
-pub struct HostPrinter<R> {
-    rt: R,
-    faults: u64,
-}
-
-impl<R: Print + Drop> HostPrinter<R> {
-    /// A printer over the runtime's standard output.
-    pub fn make(rt: R) -> HostPrinter<R> {
-        HostPrinter { rt, faults: 0 }
-    }
-}
-
-impl<R: Print + Drop> Printer for HostPrinter<R> {
-    ghost told = { λ _. None };
-
-    ghost faults = { λ printer. printer.faults };
-
-    fn faults(&self) -> u64 {
-        self.faults
-    }
-
-    fn line(&mut self, text: &[u8]) -> Result<(), Failed> {
-        match print(&self.rt, text) {
-            Ok(()) => Ok(()),
-            Err(_) => {
-                self.faults = self.faults.saturating_add(1);
-                Err(Failed)
-            }
-        }
-    }
 }
 
 fn print<R: Print>(rt: &R, text: &[u8]) -> io::Result<()> {

@@ -94,8 +94,7 @@ impl Cabinet for MemCabinet {
         ensures unlisted { (IsListed self.old.calls → ⊥)
             → (IsErr result ↔ EndsBefore (map.get self.old.files name.now) 0) × (self.new.calls ≡ called self.old.calls) }
     {
-        if self.calls.begin() {
-            self.calls.fault();
+        if self.calls.is_listed() {
             return Err(Failed);
         }
         match find(&self.files, name) {
@@ -114,8 +113,7 @@ impl Cabinet for MemCabinet {
         ensures unlisted { (IsListed self.old.calls → ⊥)
             → (IsErr result ↔ EndsBefore (map.get self.old.files name.now) (at + length out.old)) × (self.new.calls ≡ called self.old.calls) }
     {
-        if self.calls.begin() {
-            self.calls.fault();
+        if self.calls.is_listed() {
             return Err(Failed);
         }
         match find(&self.files, name) {
@@ -134,8 +132,7 @@ impl Cabinet for MemCabinet {
         ensures unlisted { (IsListed self.old.calls → ⊥)
             → OnOk result (self.new.calls ≡ called self.old.calls) × OnErr result (self.new.calls ≡ starved (called self.old.calls)) }
     {
-        if self.calls.begin() {
-            self.calls.fault();
+        if self.calls.is_listed() {
             return Err(Failed);
         }
         let alloc = *self.files.allocator();
@@ -163,8 +160,7 @@ impl Cabinet for MemCabinet {
         ensures unlisted { (IsListed self.old.calls → ⊥) → (held : List ℕ) → map.get self.old.files name.now ≡ Some held
             → OnOk result (self.new.calls ≡ called self.old.calls) × OnErr result (self.new.calls ≡ starved (called self.old.calls)) }
     {
-        if self.calls.begin() {
-            self.calls.fault();
+        if self.calls.is_listed() {
             return Err(Failed);
         }
         match extend(&mut self.files, name, bytes) {

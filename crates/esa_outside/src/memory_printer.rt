@@ -73,8 +73,7 @@ impl Printer for MemPrinter {
         ensures unlisted { (IsListed self.old.calls → ⊥)
             → OnOk result (self.new.calls ≡ called self.old.calls) × OnErr result (self.new.calls ≡ starved (called self.old.calls)) }
     {
-        if self.calls.begin() {
-            self.calls.fault();
+        if self.calls.is_listed() {
             return Err(Failed);
         }
         match print(&mut self.printed, text) {

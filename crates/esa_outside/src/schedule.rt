@@ -1,6 +1,7 @@
 //! Which calls of a cabinet or a printer in memory fail, and what was counted of them.
 
 ghost use Rattle.std.specs.Prelude.{◌≡◌, ◌≤◌, ◌↔◌, IsTrue};
+ghost use Rattle.std.specs.Bool.{OnTrue, OnFalse};
 ghost use Rattle.esa_outside.specs.Calls.{IsListed, called, faulted, starved};
 
 use std::marker::Model;
@@ -47,17 +48,23 @@ impl Schedule {
         self.starved
     }
 
-    /// Counts a call, and answers whether its number is listed.
-    pub fn begin(&mut self) -> bool
-        ensures called { self.new ≡ called self.old }
+    /// Counts a call, and answers whether its number is listed, which is a fault.
+    pub fn is_listed(&mut self) -> bool
         ensures listed { IsTrue result ↔ IsListed self.old }
+        ensures fault { OnTrue result (self.new ≡ faulted (called self.old)) }
+        ensures call { OnFalse result (self.new ≡ called self.old) }
+        ensures later { self.old.faults ≤ self.new.faults }
     {
         self.made = self.made.saturating_add(1);
-        self.fails.contains(&self.made)
+        let listed = self.fails.contains(&self.made);
+        if listed {
+            self.fault();
+        }
+        listed
     }
 
-    /// Counts a fault.
-    pub fn fault(&mut self)
+    // Counts a fault.
+    fn fault(&mut self)
         ensures fault { self.new ≡ faulted self.old }
         ensures later { self.old.faults ≤ self.new.faults }
     {
@@ -69,7 +76,7 @@ impl Schedule {
         ensures starved { self.new ≡ starved self.old }
         ensures later { self.old.faults ≤ self.new.faults }
     {
-        self.faults = self.faults.saturating_add(1);
+        self.fault();
         self.starved = self.starved.saturating_add(1);
     }
 }

@@ -1,1 +1,5 @@
 pub mod Form
+pub mod Limits
+pub mod Numbers
+pub mod Sizes
+pub mod Slots

@@ -1,5 +1,5 @@
 -- A value's report gives the value back, and the other way round.
-use Rattle.std.proofs.Common.{◌≡◌, ℕ, ◌+◌, ◌-◌, ◌^◌, ◌<◌, ◌≤◌, Bool, true, false, ◌&&◌, List, [], ◌∷◌, ◌++◌, length, take, drop, get_or, Option, Some, None, refl, sym, ap, ◌∙◌, arith, append_assoc, length-append, length-drop, leb, inl, inr}
+use Rattle.std.proofs.Common.{◌≡◌, ℕ, ◌+◌, ◌-◌, ◌^◌, ◌<◌, ◌≤◌, true, ◌&&◌, List, [], ◌++◌, length, take, drop, get_or, Option, Some, None, refl, sym, ap, ◌∙◌, arith, append_assoc, length-append, length-drop, leb, inl, inr}
 use Rattle.std.specs.Prelude.{replicate, slice_range, unwrap_or, IfSome, IfNone}
 use Rattle.std.specs.Option.{option_copied}
 use denote.Ref.{Bor}
@@ -19,7 +19,6 @@ value_in-spelled : (first value blank : List ℕ) → length first ≡ 2 → u16
     → is_zero blank ≡ true → value_in (first ++ (value ++ blank)) ≡ Some value
 unfolding value_in
 value_in-spelled first value blank two read zero =
-    let report = first ++ (value ++ blank) in
     let whole = length-append first (value ++ blank) in
     let rest = length-append value blank in
     let front = length-append first value in
@@ -90,7 +89,6 @@ pub IsReport-value_in : (report value : List ℕ) → ((i : ℕ) → get_or repo
     → IsReport report value
 unfolding value_in
 IsReport-value_in report value small h =
-    let end = 2 + u16_in report 0 in
     elim (cases_Bool (leb (2 + u16_in report 0) (length report) && is_zero (drop (2 + u16_in report 0) report))) [
       | inl good ↦
           let parts = and_parts (leb (2 + u16_in report 0) (length report)) (is_zero (drop (2 + u16_in report 0) report)) good in

@@ -1,4 +1,4 @@
-use Rattle.std.proofs.Common.{◌≡◌, ◌+◌, ◌≤◌, length, take, refl, ap, ◌∙◌, arith}
+use Rattle.std.proofs.Common.{◌+◌, length, take, refl, ap, ◌∙◌, arith}
 use Rattle.esa_envelope.specs.declared.keys.Keys.{Keys}
 use Rattle.esa_envelope.specs.Keystream.{ciphered}
 use Rattle.esa_envelope.proofs.EnvelopeLemmas.{sealed_as-written}

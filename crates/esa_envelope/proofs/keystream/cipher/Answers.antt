@@ -1,4 +1,4 @@
-use Rattle.std.proofs.Common.{◌≡◌, ℕ, ◌+◌, ◌*◌, ◌/◌, ◌≤◌, length, take, drop, bit_xor, get_or, ap, ◌∙◌, arith, length-take, length-drop}
+use Rattle.std.proofs.Common.{◌≡◌, ℕ, ◌+◌, ◌*◌, ◌/◌, ◌≤◌, length, drop, bit_xor, get_or, ap, ◌∙◌, arith, length-take, length-drop}
 use Rattle.std.specs.Prelude.{slice_range}
 use Rattle.std.specs.Int.{w32, to_le_bytes}
 use Rattle.std.proofs.lemmas.List.{take_rest}
@@ -24,7 +24,6 @@ loop-word-preserved c =
 pub returns : goal.returns
 returns c =
     let end : c.loop-word.word ≡ length c.args.from.now / 4 = omega arith in
-    let whole = length c.args.from.now / 4 in
     let rest = drop (4 * (length c.args.from.now / 4)) c.args.from.now in
     let count : length rest ≤ 4 = omega (arith, length-drop {A = ℕ}) in
     let next = next_word-at c.args.key.now c.args.nonce c.args.first_word (length c.args.from.now / 4) c.next_word-2.result

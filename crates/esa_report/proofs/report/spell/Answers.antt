@@ -1,4 +1,4 @@
-use Rattle.std.proofs.Common.{◌≡◌, ◌++◌, length, drop, refl}
+use Rattle.std.proofs.Common.{length, refl}
 use Rattle.std.specs.Int.{w16, to_be_bytes}
 use Rattle.esa_report.proofs.ReportLemmas.{report_of-written}
 use Rattle.esa_report.proofs.report.spell.Goals as goal

@@ -1,5 +1,5 @@
-use Rattle.std.proofs.Common.{◌≡◌, ◌-◌, ◌∷◌, length, take, ap, ◌∙◌, arith}
-use Rattle.esa_report.specs.Item.{item_bytes, item_in, kind_byte}
+use Rattle.std.proofs.Common.{◌∷◌, length, ap, ◌∙◌, arith}
+use Rattle.esa_report.specs.Item.{item_in, kind_byte}
 use Rattle.esa_report.proofs.ItemLemmas.{item_in-item_bytes, put_behind}
 use Rattle.esa_report.proofs.item.Item.put.Goals as goal
 

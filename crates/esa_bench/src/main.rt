@@ -1,0 +1,57 @@
+//! What the measurements of bench/ need in Rattle: bare work of the libraries, to compare with, and
+//! work of this repository's crates at any size. A module is about one measurement.
+//!
+//! With no words it runs each module at a small size, and prints what is the same at every run. With
+//! a module's name and a size it does that module's work once, so that a script can count its
+//! instructions. It promises nothing but to be safe and to end.
+#![tactic(auto)]
+
+mod bare;
+mod forward;
+mod turnstile;
+
+use anyhow::{Context, Result, bail};
+use forward::Values;
+use std::env;
+use std::rt::Files;
+use turnstile::Load;
+
+fn main(rt: HostRuntime) -> Result<()> {
+    let mut words = env::args(&rt)?;
+    let _program = words.next();
+    let Some(module) = words.next() else {
+        bare::small(&rt)?;
+        return turnstile::small(&rt, rt.alloc());
+    };
+    let size = match words.next() {
+        Some(text) => text.parse::<u64>().context("a size")?,
+        None => bail!("a module's name wants a size"),
+    };
+    if module.as_str() == "turnstile" {
+        let mut more = [0u64; 3];
+        for number in more.iter_mut() {
+            if let Some(text) = words.next() {
+                *number = text.parse::<u64>().context("a number")?;
+            }
+        }
+        let load = Load {
+            turns: size,
+            threads: more[0],
+            inside: more[1],
+            outside: more[2],
+        };
+        return turnstile::measure(&rt, rt.alloc(), &load);
+    }
+    run(&rt, module.as_str(), size)
+}
+
+/// Does the work of one module once, at a size.
+fn run<R: Print + Files + AllocGlobal>(rt: &R, module: &str, size: u64) -> Result<()> {
+    match module {
+        "hash" => bare::hash(rt, size),
+        "keystream" => bare::keystream(rt, size),
+        "forward-seven" => forward::write(rt, Values::Seven, size),
+        "forward-distinct" => forward::write(rt, Values::Distinct, size),
+        _ => bail!("no such module"),
+    }
+}

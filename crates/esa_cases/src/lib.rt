@@ -1,0 +1,11 @@
+//! The commands as a whole, over a cabinet and a printer in memory: worked cases that cross crates.
+#![tactic(auto)]
+
+#[cfg(test)]
+mod databases;
+#[cfg(test)]
+mod desk;
+#[cfg(test)]
+mod faults;
+#[cfg(test)]
+mod refusals;

@@ -1,0 +1,9 @@
+pub mod Commands
+pub mod Ends
+pub mod Exits
+pub mod PrintedLine
+pub mod JobCommand
+pub mod TakingExits
+pub mod Tops
+pub mod Counts
+pub mod Upgrades

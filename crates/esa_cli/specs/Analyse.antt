@@ -1,0 +1,77 @@
+-- What analyse takes in, writes and prints.
+use Rattle.std.specs.Prelude.{◌≡◌, ℕ, ◌*◌, ◌/◌, ◌≤◌, Bool, false, List, [], ◌∷◌, ◌++◌, length, codes, unwrap_or}
+use Rattle.esa_params.specs.declared.form.Form.{Form}
+use Rattle.esa_params.specs.declared.form.Form.TheVariants.{One, Two}
+use Rattle.esa_params.specs.Form.{inner_length}
+use Rattle.esa_outside.specs.Told.{line_of}
+use Rattle.esa_envelope.specs.declared.keys.Keys.{Keys}
+use Rattle.esa_envelope.specs.declared.label.Label.TheVariants.{Inner}
+use Rattle.esa_envelope.specs.Keys.{keys_from, master_of_epoch}
+use Rattle.esa_header.specs.Pieces.{pieces}
+use Rattle.esa_job.specs.declared.command.Command.TheVariants.{Analyse}
+use Rattle.esa_job.specs.declared.field.JobField.TheVariants as field
+use Rattle.esa_job.specs.Request.{Request}
+use Rattle.esa_job.specs.Keys.{Ring}
+use Rattle.esa_threshold.specs.declared.envelopes.Forwarded.{Forwarded}
+use Rattle.esa_analyser.specs.Database.{Database}
+use Rattle.esa_analyser.specs.Rows.{database_bytes}
+use Rattle.esa_analyser.specs.Opened.{database_of}
+use Rattle.esa_cli.specs.declared.stop.Sink.TheVariants.{Output}
+use Rattle.esa_cli.specs.Refusal.{numbered}
+use Rattle.esa_cli.specs.Step.{Step, ◌>>=◌, accepted, refused, missing, Reads}
+use Rattle.esa_cli.specs.Taking.{name_of, job_file, keys_file, forward_file}
+use Rattle.esa_cli.specs.Work.{Work, Write}
+
+-- the master of a form and an epoch: in form One the master itself, whatever the epoch
+abbrev pub master_of : Form → ℕ → List ℕ → List ℕ
+master_of One epoch master = master
+master_of Two epoch master = master_of_epoch master epoch
+
+-- the number of envelopes, and each of them
+abbrev pub number_of : Forwarded → ℕ
+number_of forwarded = length forwarded.envelopes / inner_length forwarded.form
+
+abbrev pub envelopes_of : Forwarded → List (List ℕ)
+envelopes_of forwarded = pieces (inner_length forwarded.form) (number_of forwarded) forwarded.envelopes
+
+-- the envelopes are whole, and no more than a batch has
+abbrev pub AreWhole : Forwarded → Type 0
+AreWhole forwarded = (length forwarded.envelopes ≡ inner_length forwarded.form * number_of forwarded) × (number_of forwarded ≤ 262144)
+
+-- the keys that open the envelopes
+abbrev pub inner_keys : List ℕ → Forwarded → Keys
+inner_keys master forwarded = keys_from (master_of forwarded.form forwarded.epoch master) Inner
+
+-- the database of the envelopes
+abbrev pub counted_by : List ℕ → Forwarded → Database
+counted_by master forwarded = database_of (inner_keys master forwarded) (envelopes_of forwarded)
+
+-- the line that tells how much a database holds
+abbrev pub counted_text : Database → List ℕ
+counted_text database = numbered (codes "rows ") (length database.rows) ++ numbered (codes " unopened ") database.unopened
+
+-- a database is written, and its line is printed
+abbrev pub database_work : List ℕ → Form → Database → Work
+database_work output form database = record {
+  writes = record { sink = Output; name = output; bytes = database_bytes form database } ∷ [];
+  prints = line_of (counted_text database);
+}
+
+-- what comes of the forward file
+abbrev pub analysed_by : Request → List ℕ → Forwarded → Work
+analysed_by job master forwarded = database_work (name_of job field.Output) forwarded.form (counted_by master forwarded)
+
+abbrev pub analysed : Request → Ring → Forwarded → Step Work
+analysed job ring forwarded = accepted (analysed_by job (unwrap_or ring.inner []) forwarded)
+
+-- with the job and the keys: the forward file
+abbrev pub analyse_keyed : Request → Reads → Ring → Step Work
+analyse_keyed job read ring = forward_file Analyse job read >>= analysed job ring
+
+-- with the job: its keys
+abbrev pub analyse_asked : Reads → Request → Step Work
+analyse_asked read job = keys_file Analyse false job read >>= analyse_keyed job read
+
+-- analyse: the job, its keys and its forward file
+unfoldable pub analyse_steps : List ℕ → Reads → Step Work
+analyse_steps name read = job_file Analyse false name read >>= analyse_asked read

@@ -1,0 +1,17 @@
+pub mod Analyse
+pub mod Call
+pub mod Counting
+pub mod Ends
+pub mod Explains
+pub mod Judged
+pub mod Loaded
+pub mod Plain
+pub mod Refusal
+pub mod Source
+pub mod Status
+pub mod Step
+pub mod Stop
+pub mod Stored
+pub mod Taking
+pub mod Words
+pub mod Work

@@ -1,0 +1,53 @@
+-- The text of each refusal.
+use Rattle.std.specs.Prelude.{ℕ, List, ◌++◌, codes, decimal}
+use Rattle.esa_bytes.specs.declared.cut.Cut.{Cut}
+use Rattle.esa_threshold.specs.declared.refused.ForwardRefused.{ForwardRefused}
+use Rattle.esa_threshold.specs.declared.refused.ForwardRefused.TheVariants as forward
+use Rattle.esa_analyser.specs.declared.refused.DbRefused.{DbRefused}
+use Rattle.esa_analyser.specs.declared.refused.DbRefused.TheVariants as database
+use Rattle.esa_job.specs.Word.{command_word, field_word, key_word}
+use Rattle.esa_cli.specs.declared.refusal.Refusal.{Refusal}
+use Rattle.esa_cli.specs.declared.refusal.Refusal.TheVariants as refusal
+use Rattle.esa_cli.specs.Words.{role_word, param_word}
+
+-- a word and a number after it
+abbrev pub numbered : List ℕ → ℕ → List ℕ
+numbered word number = word ++ decimal number
+
+-- a file that ends too early
+abbrev pub cut_text : Cut → List ℕ
+cut_text cut = numbered (codes "cut want ") cut.want ++ numbered (codes " have ") cut.have
+
+-- what is wrong with a forward file
+abbrev pub forward_text : ForwardRefused → List ℕ
+forward_text (forward.Cut cut) = cut_text cut
+forward_text forward.BadMagic = codes "bad-magic"
+forward_text forward.BadVersion = codes "bad-version"
+forward_text forward.BadSize = codes "bad-size"
+forward_text forward.Trailing = codes "trailing"
+forward_text (forward.TooMany n) = numbered (codes "too-many ") n
+forward_text forward.OutOfMemory = codes "out-of-memory"
+
+-- what is wrong with a database file
+abbrev pub database_text : DbRefused → List ℕ
+database_text (database.Cut cut) = cut_text cut
+database_text database.BadMagic = codes "bad-magic"
+database_text database.BadVersion = codes "bad-version"
+database_text (database.BadLength row) = numbered (codes "bad-length ") row
+database_text (database.Unsorted row) = numbered (codes "unsorted ") row
+database_text (database.ZeroCount row) = numbered (codes "zero-count ") row
+database_text database.Trailing = codes "trailing"
+database_text database.OutOfMemory = codes "out-of-memory"
+
+-- what follows "refused: "
+abbrev pub refusal_text : Refusal → List ℕ
+refusal_text (refusal.Large role) = codes "large " ++ role_word role
+refusal_text (refusal.Job field) = codes "job " ++ field_word field
+refusal_text (refusal.Params field) = codes "params " ++ param_word field
+refusal_text (refusal.Keys field) = codes "keys " ++ key_word field
+refusal_text (refusal.Drops line) = numbered (codes "drops ") line
+refusal_text (refusal.Turns line) = numbered (codes "turns ") line
+refusal_text (refusal.Lines n) = numbered (codes "lines ") n
+refusal_text (refusal.Forward refused) = codes "forward " ++ forward_text refused
+refusal_text (refusal.Database refused) = codes "database " ++ database_text refused
+refusal_text (refusal.NotBuilt command) = codes "not-built " ++ command_word command

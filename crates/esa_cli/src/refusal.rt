@@ -1,0 +1,128 @@
+//! Why a command was refused, and the text that says so.
+
+ghost use Rattle.std.specs.Prelude.{◌≡◌, ◌+◌, ◌≤◌, ◌++◌, length, codes};
+ghost use Rattle.esa_cli.specs.Refusal.{refusal_text, forward_text, database_text, cut_text, numbered};
+
+use crate::line::Line;
+use crate::words::{word_of_param, word_of_role};
+use esa_analyser::DbRefused;
+use esa_bytes::Cut;
+use esa_job::{Command, JobField, KeyField};
+use esa_outside::Role;
+use esa_params::ParamField;
+use esa_threshold::ForwardRefused;
+
+/// The first thing that is wrong with what a command was given.
+///
+/// A variant that carries what a reader refused never carries want of memory.
+#[derive(Clone, Copy, PartialEq, Eq, Debug)]
+pub enum Refusal {
+    /// The file of this role is longer than its limit.
+    Large(Role),
+    /// A field of the job file is missing, of another type, or at odds with another.
+    Job(JobField),
+    /// A number of the job file passes its limit.
+    Params(ParamField),
+    /// A key is missing or is no key.
+    Keys(KeyField),
+    /// A line of the drops file, counted from 1.
+    Drops(u64),
+    /// A line of the turns file, counted from 1.
+    Turns(u64),
+    /// More lines than can be encoded or batched.
+    Lines {
+        /// Their number.
+        n: u64,
+    },
+    /// The forward file breaks its format.
+    Forward(ForwardRefused),
+    /// The database file breaks its format.
+    Database(DbRefused),
+    /// The command isn't built yet.
+    NotBuilt(Command),
+}
+
+/// Adds the text of a refusal.
+pub fn add_refusal(line: &mut Line, refusal: &Refusal)
+    requires { length line.old ≤ 20 }
+    ensures { line.new ≡ line.old ++ refusal_text refusal.now }
+{
+    match refusal {
+        Refusal::Large(role) => add_pair(line, "large ", word_of_role(*role)),
+        Refusal::Job(field) => add_pair(line, "job ", field.word()),
+        Refusal::Params(field) => add_pair(line, "params ", word_of_param(*field)),
+        Refusal::Keys(field) => add_pair(line, "keys ", field.word()),
+        Refusal::Drops(number) => add_numbered(line, "drops ", *number),
+        Refusal::Turns(number) => add_numbered(line, "turns ", *number),
+        Refusal::Lines { n } => add_numbered(line, "lines ", *n),
+        Refusal::Forward(refused) => add_forward(line, refused),
+        Refusal::Database(refused) => add_database(line, refused),
+        Refusal::NotBuilt(command) => add_pair(line, "not-built ", command.word()),
+    }
+}
+
+// Adds two words.
+fn add_pair(line: &mut Line, first: &str, second: &str)
+    requires line { length line.old ≤ 20 }
+    requires first { length first.now ≤ 20 }
+    requires second { length second.now ≤ 20 }
+    ensures { line.new ≡ line.old ++ (first.now ++ second.now) }
+{
+    line.word(first);
+    line.word(second);
+}
+
+// Adds a word and a number.
+fn add_numbered(line: &mut Line, word: &str, number: u64)
+    requires line { length line.old ≤ 80 }
+    requires word { length word.now ≤ 20 }
+    ensures text { line.new ≡ line.old ++ numbered word.now number }
+    ensures short { length line.new ≤ length line.old + length word.now + 20 }
+{
+    line.word(word);
+    line.number(number);
+}
+
+// Adds what a file that ends too early is told.
+fn add_cut(line: &mut Line, cut: &Cut)
+    requires { length line.old ≤ 40 }
+    ensures { line.new ≡ line.old ++ cut_text cut.now }
+{
+    add_numbered(line, "cut want ", cut.want);
+    add_numbered(line, " have ", cut.have);
+}
+
+// Adds what is wrong with a forward file.
+fn add_forward(line: &mut Line, refused: &ForwardRefused)
+    requires { length line.old ≤ 20 }
+    ensures { line.new ≡ line.old ++ (codes "forward " ++ forward_text refused.now) }
+{
+    line.word("forward ");
+    match refused {
+        ForwardRefused::Cut(cut) => add_cut(line, cut),
+        ForwardRefused::BadMagic => line.word("bad-magic"),
+        ForwardRefused::BadVersion => line.word("bad-version"),
+        ForwardRefused::BadSize => line.word("bad-size"),
+        ForwardRefused::Trailing => line.word("trailing"),
+        ForwardRefused::TooMany { n } => add_numbered(line, "too-many ", u64::from(*n)),
+        ForwardRefused::OutOfMemory => line.word("out-of-memory"),
+    }
+}
+
+// Adds what is wrong with a database file.
+fn add_database(line: &mut Line, refused: &DbRefused)
+    requires { length line.old ≤ 20 }
+    ensures { line.new ≡ line.old ++ (codes "database " ++ database_text refused.now) }
+{
+    line.word("database ");
+    match refused {
+        DbRefused::Cut(cut) => add_cut(line, cut),
+        DbRefused::BadMagic => line.word("bad-magic"),
+        DbRefused::BadVersion => line.word("bad-version"),
+        DbRefused::BadLength(row) => add_numbered(line, "bad-length ", u64::from(*row)),
+        DbRefused::Unsorted(row) => add_numbered(line, "unsorted ", u64::from(*row)),
+        DbRefused::ZeroCount(row) => add_numbered(line, "zero-count ", u64::from(*row)),
+        DbRefused::Trailing => line.word("trailing"),
+        DbRefused::OutOfMemory => line.word("out-of-memory"),
+    }
+}

@@ -1,0 +1,195 @@
+-- What a job that is acceptable has at its fields.
+use Rattle.std.proofs.Common.{◌≡◌, ℕ, zero, suc, ◌≤◌, Bool, true, false, ◌&&◌, not, cond, List, [], ◌∷◌, length, map, slice_get, Option, Some, None, is_some, option_map, option_and_then, IsSome, refl, ap, ◌∙◌, sym, subst, nat_le}
+use Rattle.std.specs.List.{AllByRecursion, list_all, filter_map, cons_option}
+use Rattle.std.specs.Option.{option_or, option_map_or}
+use Rattle.std.proofs.lemmas.Bool.{leb-true}
+use Rattle.std.proofs.lemmas.Option.{slice_get-map}
+use Rattle.serde_json.specs.Data.{Data, Items}
+use Rattle.serde_json.specs.Find.{as_array}
+use Rattle.esa_params.specs.Limits.{is_from, first_past}
+use Rattle.esa_job.specs.declared.field.JobField.{JobField}
+use Rattle.esa_job.specs.declared.field.JobField.TheVariants.{Job, Keys, Input, Inputs, Output, Trace, Turns, TurnsOut, Drops, Coins, Seed, Draw, Records, Crowds, Number, NonceBase, Form, Epoch, Shares, B, C, S, K, W, Q, Workers, Attempts, M, T, Mode}
+use Rattle.esa_job.specs.declared.field.Kind.TheVariants as kind
+use Rattle.esa_job.specs.declared.field.Need.{Need}
+use Rattle.esa_job.specs.declared.field.Need.TheVariants.{Unused, Optional, Needed}
+use Rattle.esa_job.specs.Refusal.{IsAcceptable, is_missing, is_ill_typed, is_bad, first_bad, is_past, params_of, first_param_past, first_other_past}
+use Rattle.esa_job.specs.Request.{Request, is_used, is_needed, value_at, is_there, name_at, number_at, mode_at, list_at, inputs_at}
+use Rattle.esa_job.specs.Table.{fields, kind_of, need_of}
+use Rattle.esa_job.proofs.Outcomes.{both_false, both_true, not-false, not_chosen, is_none-none, none_found}
+use Rattle.esa_job.specs.Values.{name_in, number_in, mode_in, is_name, is_name_list, holds_names, list_of}
+
+-- ---- no field is bad
+
+-- every field is among those that are looked at
+each_field : (P : JobField → Type 0) → P Job → AllByRecursion P fields → (field : JobField) → P field
+unfolding fields
+each_field P job all Job = job
+each_field P job all Keys = all.0
+each_field P job all Input = all.1.0
+each_field P job all Inputs = all.1.1.0
+each_field P job all Output = all.1.1.1.0
+each_field P job all Trace = all.1.1.1.1.0
+each_field P job all Turns = all.1.1.1.1.1.0
+each_field P job all TurnsOut = all.1.1.1.1.1.1.0
+each_field P job all Drops = all.1.1.1.1.1.1.1.0
+each_field P job all Coins = all.1.1.1.1.1.1.1.1.0
+each_field P job all Seed = all.1.1.1.1.1.1.1.1.1.0
+each_field P job all Draw = all.1.1.1.1.1.1.1.1.1.1.0
+each_field P job all Records = all.1.1.1.1.1.1.1.1.1.1.1.0
+each_field P job all Crowds = all.1.1.1.1.1.1.1.1.1.1.1.1.0
+each_field P job all Number = all.1.1.1.1.1.1.1.1.1.1.1.1.1.0
+each_field P job all NonceBase = all.1.1.1.1.1.1.1.1.1.1.1.1.1.1.0
+each_field P job all Form = all.1.1.1.1.1.1.1.1.1.1.1.1.1.1.1.0
+each_field P job all Epoch = all.1.1.1.1.1.1.1.1.1.1.1.1.1.1.1.1.0
+each_field P job all Shares = all.1.1.1.1.1.1.1.1.1.1.1.1.1.1.1.1.1.0
+each_field P job all B = all.1.1.1.1.1.1.1.1.1.1.1.1.1.1.1.1.1.1.0
+each_field P job all C = all.1.1.1.1.1.1.1.1.1.1.1.1.1.1.1.1.1.1.1.0
+each_field P job all S = all.1.1.1.1.1.1.1.1.1.1.1.1.1.1.1.1.1.1.1.1.0
+each_field P job all K = all.1.1.1.1.1.1.1.1.1.1.1.1.1.1.1.1.1.1.1.1.1.0
+each_field P job all W = all.1.1.1.1.1.1.1.1.1.1.1.1.1.1.1.1.1.1.1.1.1.1.0
+each_field P job all Q = all.1.1.1.1.1.1.1.1.1.1.1.1.1.1.1.1.1.1.1.1.1.1.1.0
+each_field P job all Workers = all.1.1.1.1.1.1.1.1.1.1.1.1.1.1.1.1.1.1.1.1.1.1.1.1.0
+each_field P job all Attempts = all.1.1.1.1.1.1.1.1.1.1.1.1.1.1.1.1.1.1.1.1.1.1.1.1.1.0
+each_field P job all M = all.1.1.1.1.1.1.1.1.1.1.1.1.1.1.1.1.1.1.1.1.1.1.1.1.1.1.0
+each_field P job all T = all.1.1.1.1.1.1.1.1.1.1.1.1.1.1.1.1.1.1.1.1.1.1.1.1.1.1.1.0
+each_field P job all Mode = all.1.1.1.1.1.1.1.1.1.1.1.1.1.1.1.1.1.1.1.1.1.1.1.1.1.1.1.1.0
+
+not_bad : (job : Request) → first_bad job ≡ None → (field : JobField) → is_bad job field ≡ false
+unfolding first_bad
+not_bad job none = each_field (λ field. is_bad job field ≡ false) refl (none_found (is_bad job) fields none)
+
+-- a field that is not bad is there where it is needed, and has a value of its type where it is there
+record Good (job : Request) (field : JobField) : Type 0 where
+  missing : is_missing job field ≡ false
+  typed : is_ill_typed job field ≡ false
+
+good : (job : Request) → IsAcceptable job → (field : JobField) → Good job field
+good job accepted field =
+    let parts = both_true _ _ accepted in
+    let parts = both_false _ _ (not_bad job (is_none-none _ parts.0) field) in
+    let first = both_false _ _ parts.0 in
+    record { missing = first.0; typed = first.1 }
+
+-- ---- values
+
+some_value : {A : Type 0} (read : Data → Option A) (found : Option Data) → is_some found ≡ true → option_map_or (λ value. not (is_some (read value))) found false ≡ false → is_some (option_and_then read found) ≡ true
+some_value read None there typed = there
+some_value read (Some value) there typed = not-false (is_some (read value)) typed
+
+is_there-needed : (job : Request) (field : JobField) → need_of field job.command ≡ Needed → is_missing job field ≡ false → is_there job field ≡ true
+is_there-needed job field needed missing = known (need_of field job.command) (is_there job field) needed missing
+  where
+    known : (need : Need) (there : Bool) → need ≡ Needed → (is_needed need && not there) ≡ false → there ≡ true
+    known Unused there needed missing = cc
+    known Optional there needed missing = cc
+    known Needed true needed missing = refl
+    known Needed false needed missing = sym missing
+
+pub name_at-needed : (job : Request) → IsAcceptable job → (field : JobField) → kind_of field ≡ kind.Name → need_of field job.command ≡ Needed → IsSome (name_at job field)
+name_at-needed job accepted field of_kind needed =
+    let fits = good job accepted field in
+    some_value name_in (value_at job field) (is_there-needed job field needed fits.missing) (rw of_kind at fits.typed)
+
+pub number_at-needed : (job : Request) → IsAcceptable job → (field : JobField) → kind_of field ≡ kind.Number → need_of field job.command ≡ Needed → IsSome (number_at job field)
+number_at-needed job accepted field of_kind needed =
+    let fits = good job accepted field in
+    some_value number_in (value_at job field) (is_there-needed job field needed fits.missing) (rw of_kind at fits.typed)
+
+pub mode_at-needed : (job : Request) → IsAcceptable job → need_of Mode job.command ≡ Needed → IsSome (mode_at job)
+mode_at-needed job accepted needed =
+    let fits = good job accepted Mode in
+    some_value mode_in (value_at job Mode) (is_there-needed job Mode needed fits.missing) fits.typed
+
+-- ---- numbers
+
+-- the limits of the numbers beside the parameters
+pub record Kept (job : Request) : Type 0 where
+  pub m : is_past job M 1 262144 ≡ false
+  pub t : is_past job T 1 262144 ≡ false
+  pub records : is_past job Records 1 262144 ≡ false
+  pub crowds : is_past job Crowds 1 65536 ≡ false
+  pub form : is_past job Form 1 2 ≡ false
+  pub epoch : is_past job Epoch 0 4294967295 ≡ false
+  pub shares : is_past job Shares 2 16 ≡ false
+
+kept_from : (job : Request) → first_other_past job ≡ None → Kept job
+unfolding first_other_past
+kept_from job none =
+    let m = not_chosen _ _ _ none in
+    let t = not_chosen _ _ _ m.1 in
+    let records = not_chosen _ _ _ t.1 in
+    let crowds = not_chosen _ _ _ records.1 in
+    let form = not_chosen _ _ _ crowds.1 in
+    let epoch = not_chosen _ _ _ form.1 in
+    let shares = not_chosen _ _ _ epoch.1 in
+    record { m = m.0; t = t.0; records = records.0; crowds = crowds.0; form = form.0; epoch = epoch.0; shares = shares.0 }
+
+option_or-none : {A : Type 0} (first second : Option A) → option_or first second ≡ None → (first ≡ None) × (second ≡ None)
+option_or-none None second h = (refl, h)
+option_or-none (Some x) second h = cc
+
+no_limit_past : (job : Request) → IsAcceptable job → (first_param_past job ≡ None) × (first_other_past job ≡ None)
+no_limit_past job accepted = option_or-none _ _ (is_none-none _ (both_true _ _ accepted).1)
+
+pub kept : (job : Request) → IsAcceptable job → Kept job
+kept job accepted = kept_from job (no_limit_past job accepted).1
+
+-- the parameters keep their limits, for a command that uses them
+pub params_kept : (job : Request) → IsAcceptable job → need_of B job.command ≡ Needed → first_past (params_of job) ≡ None
+params_kept job accepted needed = known (need_of B job.command) (first_past (params_of job)) needed (no_limit_past job accepted).0
+  where
+    known : {A : Type 0} (need : Need) (past : Option A) → need ≡ Needed → cond (is_used need) past None ≡ None → past ≡ None
+    known Unused past needed none = cc
+    known Optional past needed none = none
+    known Needed past needed none = none
+
+is_kept : (least greatest number : ℕ) → not (is_from number least greatest) ≡ false → (least ≤ number) × (number ≤ greatest)
+is_kept least greatest number past =
+    let tests = both_true (nat_le least number) (nat_le number greatest) (not-false _ past) in
+    (leb-true _ _ tests.0, leb-true _ _ tests.1)
+
+-- a number that is not past its limits
+pub within : (job : Request) (field : JobField) (least greatest number : ℕ) → Some number ≡ number_at job field → is_past job field least greatest ≡ false → (least ≤ number) × (number ≤ greatest)
+within job field least greatest number is past =
+    let P : Option ℕ → Type 0 = λ found. option_map_or (λ n. not (is_from n least greatest)) found false ≡ false in
+    is_kept least greatest number (subst P (sym is) past)
+
+-- ---- what a value is read from
+
+pub is_some-before : {A B : Type 0} (f : A → B) (found : Option A) (seen : Option B) → option_map f found ≡ seen → IsSome seen → IsSome found
+is_some-before f None seen is some = ap is_some is ∙ some
+is_some-before f (Some x) seen is some = refl
+
+-- ---- inputs
+
+slice_get-filter_map : {A B : Type 0} (read : A → Option B) (values : List A) (place : ℕ) → list_all (λ value. is_some (read value)) values ≡ true → slice_get (filter_map read values) place ≡ option_and_then read (slice_get values place)
+slice_get-filter_map read [] place named = refl
+slice_get-filter_map read (value ∷ values) zero named = first (read value) (filter_map read values) (both_true _ _ named).0
+  where
+    first : {B : Type 0} (found : Option B) (rest : List B) → is_some found ≡ true → slice_get (cons_option found rest) zero ≡ found
+    first None rest some = cc
+    first (Some x) rest some = refl
+slice_get-filter_map read (value ∷ values) (suc place) named =
+    later (read value) (filter_map read values) place (both_true _ _ named).0 ∙ slice_get-filter_map read values place (both_true _ _ named).1
+  where
+    later : {B : Type 0} (found : Option B) (rest : List B) (place : ℕ) → is_some found ≡ true → slice_get (cons_option found rest) (suc place) ≡ slice_get rest place
+    later None rest place some = cc
+    later (Some x) rest place some = refl
+
+inputs_named : (job : Request) → IsAcceptable job → list_all is_name (list_at job) ≡ true
+inputs_named job accepted = known (value_at job Inputs) (good job accepted Inputs).typed
+  where
+    listed : (found : Option Items) → not (option_map_or (λ values. is_name_list (list_of values)) found false) ≡ false → list_all is_name (option_map_or list_of found []) ≡ true
+    listed None typed = cc
+    listed (Some values) typed = (both_true (nat_le 1 (length (list_of values)) && nat_le (length (list_of values)) 16) _ (not-false _ typed)).1
+
+    known : (found : Option Data) → option_map_or (λ value. not (holds_names value)) found false ≡ false → list_all is_name (option_map_or list_of (option_and_then as_array found) []) ≡ true
+    known None typed = refl
+    known (Some value) typed = listed (as_array value) typed
+
+-- the input at a place is the name that the value there is
+pub input_at : (job : Request) → IsAcceptable job → {V : Type 0} (view : V → Data) (values : List V) (place : ℕ) → map view values ≡ list_at job → slice_get (inputs_at job) place ≡ option_and_then name_in (option_map view (slice_get values place))
+input_at job accepted view values place is =
+    slice_get-filter_map name_in (list_at job) place (inputs_named job accepted)
+    ∙ ap (λ found. option_and_then name_in (slice_get found place)) (sym is)
+    ∙ ap (option_and_then name_in) (slice_get-map view values place)

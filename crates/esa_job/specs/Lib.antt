@@ -1,0 +1,16 @@
+pub use Rattle.serde_json.specs.Data
+pub use Rattle.serde_json.specs.Find
+pub use Rattle.serde_json.specs.View
+pub use Rattle.esa_json.specs.Object
+pub use Rattle.esa_params.specs.Limits
+pub use Rattle.esa_bytes.specs.Decimal
+pub use Rattle.esa_bytes.specs.Lines
+pub mod Word
+pub mod Table
+pub mod Values
+pub mod Request
+pub mod Refusal
+pub mod Draft
+pub mod Seen
+pub mod Keys
+pub mod Drops

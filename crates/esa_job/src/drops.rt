@@ -1,0 +1,104 @@
+//! Drops: how many records of a crowd are dropped, by the crowd's place in a table.
+
+ghost use Rattle.std.specs.Prelude.{◌≡◌, ◌≤◌, drop, option_map, option_and_then, slice_get, IfSome, length};
+ghost use Rattle.esa_bytes.specs.Lines.{text_lines};
+ghost use Rattle.esa_job.specs.Drops.{drop_in};
+
+use esa_bytes::{decimal, line_at};
+use std::marker::Model;
+
+/// Why a drops file was refused.
+#[derive(Clone, Copy, PartialEq, Eq, Debug)]
+pub enum DropsRefused {
+    /// The first line that is bad or missing, counted from 1, or 257 where there are more than 256.
+    Line(u64),
+}
+
+/// A table of 256 numbers of records to drop, each up to 262,144.
+#[derive(Drop)]
+pub struct Drops {
+    entries: [u32; 256],
+}
+
+impl Model for Drops {
+    ghost use Rattle.std.specs.Prelude.{ℕ, List};
+
+    ghost Value = { List ℕ };
+
+    ghost view = { λ drops. drops.entries };
+}
+
+impl Drops {
+    ghost use Rattle.std.specs.Prelude.{◌<◌, replicate, slice_index, Ok, Err, IfOk, IfErr, MatchResult};
+    ghost use Rattle.esa_job.specs.Drops.{drops_of};
+
+    /// The table in which no record is dropped.
+    pub fn zero() -> Drops
+        ensures { result ≡ replicate 256 0 }
+    {
+        Drops { entries: [0; 256] }
+    }
+
+    /// Reads the table from the bytes of a drops file: 256 lines, each a decimal number up to 262,144. The number of
+    /// line x + 1 is the entry x.
+    pub fn read(bytes: &[u8]) -> Result<Drops, DropsRefused>
+        ensures ok { IfOk result (λ drops. drops_of bytes.now ≡ Ok drops) }
+        ensures err { IfErr result (λ e. drops_of bytes.now ≡ Err e) }
+    {
+        let mut entries = [0; 256];
+        let mut at = 0;
+        for place in 0..256 {
+            match next_drop(bytes, at) {
+                Some((number, next)) => {
+                    entries[place] = number;
+                    at = next;
+                }
+                None => return Err(DropsRefused::Line(place as u64 + 1)),
+            }
+        }
+        match line_at(bytes, at) {
+            Some(_) => Err(DropsRefused::Line(257)),
+            None => Ok(Drops { entries }),
+        }
+    }
+
+    /// How many records are dropped of a crowd at this place of the table.
+    pub fn at(&self, place: u8) -> u32
+        ensures { result ≡ slice_index self.now place }
+    {
+        self.entries[place as usize]
+    }
+}
+
+// The drop that the line at `at` writes, and where the next line starts.
+fn next_drop(bytes: &[u8], at: usize) -> Option<(u32, usize)>
+    requires { at ≤ length bytes.now }
+    ensures value { option_map (λ found. found.0) result
+        ≡ option_and_then drop_in (slice_get (text_lines (drop at bytes.now)) 0) }
+    ensures rest { IfSome result (λ found. drop 1 (text_lines (drop at bytes.now)) ≡ text_lines (drop found.1 bytes.now)) }
+    ensures within { IfSome result (λ found. found.1 ≤ length bytes.now) }
+{
+    match line_at(bytes, at) {
+        Some(line) => match drop_of(&bytes[line.start..line.end]) {
+            Some(number) => Some((number, line.next)),
+            None => None,
+        },
+        None => None,
+    }
+}
+
+// The drop that a line writes: a decimal number up to 262,144.
+fn drop_of(line: &[u8]) -> Option<u32>
+    ensures { result ≡ drop_in line.now }
+{
+    match decimal(line) {
+        Some(number) => {
+            if number <= 262_144 {
+                Some(number as u32)
+            } else {
+                None
+            }
+        }
+        None => None,
+    }
+}

@@ -1,0 +1,26 @@
+-- How a list of turns is completed, so that each attempt comes to its end whatever turns are handed in.
+use Rattle.std.specs.Prelude.{ℕ, zero, suc, ◌+◌, ◌*◌, Bool, unwrap_or, List, [], ◌++◌, length, take, find}
+use Rattle.esa_params.specs.Sizes.{Sizes, below}
+use Rattle.esa_spec.specs.Draws.{Draw}
+use Rattle.esa_spec.specs.Verdicts.{is_finished}
+
+-- a list n times over
+abbrev pub again : ℕ → List ℕ → List ℕ
+again zero xs = []
+again (suc n) xs = xs ++ again n xs
+
+-- the turns, and behind them the turns of all workers, one after another, as often as may be needed
+abbrev pub completed : Sizes → List ℕ → List ℕ
+completed p turns = turns ++ again (p.b * (p.b + 3)) (below p.workers)
+
+-- the first n turns are finished
+abbrev pub is_finished_at : Sizes → Draw → List ℕ → ℕ → Bool
+is_finished_at p d h n = is_finished p d (take n h)
+
+-- how many turns are made: the least number that is finished
+abbrev pub turns_needed : Sizes → Draw → List ℕ → ℕ
+turns_needed p d h = unwrap_or (find (is_finished_at p d h) (below (length h + 1))) (length h)
+
+-- the shortest finished beginning of the completed turns
+abbrev pub full : Sizes → Draw → List ℕ → List ℕ
+full p d turns = take (turns_needed p d (completed p turns)) (completed p turns)

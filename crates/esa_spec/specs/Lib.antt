@@ -1,0 +1,11 @@
+pub mod Cases
+pub mod Completion
+pub mod Draws
+pub mod Files
+pub mod Histories
+pub mod Lines
+pub mod Places
+pub mod Queue
+pub mod Traces
+pub mod Turns
+pub mod Verdicts

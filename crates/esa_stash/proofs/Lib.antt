@@ -1,0 +1,11 @@
+pub mod Arenas
+pub mod Dealt
+pub mod Drawing
+pub mod Lines
+pub mod Exchanging
+pub mod Linking
+pub mod Partitions
+pub mod Rising
+pub mod Rows
+pub mod TotalLemmas
+pub mod Walks

@@ -1,0 +1,11 @@
+pub use Rattle.esa_params.specs.Sizes
+pub use Rattle.esa_report.specs.Item
+pub use Rattle.esa_spec.specs.Draws
+pub use Rattle.esa_spec.specs.Queue
+pub mod Arena
+pub mod Dealing
+pub mod Ends
+pub mod Inside
+pub mod Links
+pub mod Since
+pub mod Stash

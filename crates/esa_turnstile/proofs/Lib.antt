@@ -1,0 +1,13 @@
+pub mod Totals
+pub mod Prefixes
+pub mod Rebuilt
+pub mod Draws
+pub mod Looks
+pub mod Counts
+pub mod Advances
+pub mod Reseated
+pub mod Notes
+pub mod Dealing
+pub mod Closing
+pub mod Gathering
+pub mod EachNumber

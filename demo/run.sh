@@ -1,0 +1,30 @@
+#!/usr/bin/env bash
+# Builds esa and runs it on a forward file of 400 sealed reports that demo/make_forward.py made.
+set -eu
+demo=$(cd "$(dirname "$0")" && pwd)
+work=$(mktemp -d)
+trap 'rm -rf "$work"' EXIT
+cp "$demo"/*.json "$demo"/forward "$work"
+
+echo "Building esa: the first time every crate below it is proved, which takes a while .."
+(cd "$demo/../crates/esa" && rt run >/dev/null)
+program="$demo/../crates/esa/out/esa"
+esa() { (cd "$work" && "$program" "$@"); }
+
+echo
+echo '$ esa analyse analyse.json'
+esa analyse analyse.json
+echo '   Seven of the 400 envelopes had their tag changed, so they did not open; the others hold six values.'
+echo
+echo '$ esa histogram histogram.json'
+esa histogram histogram.json
+echo '   Look at the escapes: a byte that is no printable ASCII stands as \xNN.'
+echo
+echo '$ esa upgrade upgrade.json'
+esa upgrade upgrade.json
+echo '   The same rows as a database of version 2:'
+head -c 13 "$work/database" | od -An -tx1
+head -c 13 "$work/database2" | od -An -tx1
+echo
+echo '$ esa analyse upgrade.json'
+esa analyse upgrade.json || echo "   It ends with status $?: what is refused is named, and nothing was written."
