@@ -10,6 +10,7 @@ use Rattle.std.proofs.lemmas.Bool.Decides.{nat_tests}
 use Rattle.esa_bytes.specs.Field.{u32_in}
 use Rattle.esa_bytes.proofs.FieldLemmas.{u32_in-written}
 use Rattle.esa_params.specs.declared.form.Form.{Form}
+use Rattle.esa_params.specs.declared.form.Form.TheVariants.{One, Two}
 use Rattle.esa_header.specs.Version.{version_byte, form_in}
 use Rattle.esa_header.proofs.HeaderLaws.{AreBytes, field_u32, u32_in-fits, form_in-is, form_in-version_byte, first_passed, then_passed, same_number, no_test, not_below}
 use Rattle.esa_analyser.specs.declared.refused.DbRefused.{DbRefused}
@@ -234,3 +235,8 @@ answer-accepts bytes form database can is (Ok stored) answer =
 answer-accepts bytes form database can is (Err refused) answer =
     let accepted : database_in bytes ≡ Ok (record { form = form; database = database }) = ap database_in is ∙ database_in-accepts form database can in
     elim answer [ inl want ↦ want | inr other ↦ cc ]
+
+-- a database of either form can be written in form Two
+pub short_for_two : (form : Form) (database : Database) → IsDatabase form database → All (λ row. length row.0 ≤ 190) database.rows
+short_for_two One database is = λ k d below. let here = (is.rows k d below).short in omega arith
+short_for_two Two database is = λ k d below. (is.rows k d below).short

@@ -26,3 +26,6 @@ pub use db::{Db, read_db};
 pub use print::histogram;
 pub use refused::DbRefused;
 pub use write::write_db;
+
+#[cfg(test)]
+mod tests;
