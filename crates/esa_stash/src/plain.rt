@@ -19,7 +19,11 @@ struct Plain {
 
 impl Plain {
     // What leaves in an exchange, or how many would stay.
-    fn exchange(&mut self, alloc: Global, handed: &[(u32, u8)]) -> Result<Result<Vec<(u32, u8)>, usize>, AllocError> {
+    fn exchange(
+        &mut self,
+        alloc: Global,
+        handed: &[(u32, u8)],
+    ) -> Result<Result<Vec<(u32, u8)>, usize>, AllocError> {
         let mut line = self.held.clone()?;
         line.extend_from_slice(handed)?;
         let mut passed: Vec<(u32, u8)> = Vec::new(alloc);
@@ -43,7 +47,12 @@ impl Plain {
 }
 
 // The numbers of each target's pairs, with 0 up to the length of a chunk.
-fn laid_out(alloc: Global, pairs: &[(u32, u8)], targets: u32, chunk: usize) -> Result<Vec<u8>, AllocError> {
+fn laid_out(
+    alloc: Global,
+    pairs: &[(u32, u8)],
+    targets: u32,
+    chunk: usize,
+) -> Result<Vec<u8>, AllocError> {
     let mut laid = Vec::new(alloc);
     for target in 0..targets {
         for pair in pairs {
@@ -68,7 +77,12 @@ fn drawn(seed: u32) -> u32 {
 }
 
 // So many targets below a limit.
-fn drawn_targets(alloc: Global, mut seed: u32, many: u32, limit: u32) -> Result<Vec<u32>, AllocError>
+fn drawn_targets(
+    alloc: Global,
+    mut seed: u32,
+    many: u32,
+    limit: u32,
+) -> Result<Vec<u32>, AllocError>
     requires { 0 < limit }
     ensures { IfOk result (λ targets. All (λ target. target < limit) targets.items) }
 {
@@ -118,7 +132,10 @@ fn exchange_both(
             }
         }
         Err(total) => {
-            assert_eq!(rt; mine.map_err(|overflow| overflow.total as usize), Err(total));
+            assert_eq!(rt;
+                mine.map_err(|overflow| overflow.total as usize),
+                Err(total)
+            );
             assert!(rt; numbers(alloc, &chunks)?.iter().all(|number| *number == 77));
             assert!(rt; counts.iter().all(|count| *count == 77));
         }
@@ -127,7 +144,14 @@ fn exchange_both(
 }
 
 // Exchanges of up to so many items, one after another.
-fn run_both(rt: &impl Abort, alloc: Global, limit: u32, chunk: u32, room: u32, most: u32) -> Result<(), AllocError>
+fn run_both(
+    rt: &impl Abort,
+    alloc: Global,
+    limit: u32,
+    chunk: u32,
+    room: u32,
+    most: u32,
+) -> Result<(), AllocError>
     requires some { 0 < limit }
     requires small { limit * chunk < 2 ^ 32 }
     requires few { most < 100 }
@@ -142,7 +166,10 @@ fn run_both(rt: &impl Abort, alloc: Global, limit: u32, chunk: u32, room: u32, m
         let seed = drawn(turn);
         let targets = drawn_targets(alloc, seed, (seed >> 8) % (most + 1), limit)?;
         exchange_both(rt, alloc, &mut stash, &mut plain, limit, chunk, &targets)?;
-        assert_eq!(rt; stash.cells().free() as usize + plain.held.len(), room as usize);
+        assert_eq!(rt;
+            stash.cells().free() as usize + plain.held.len(),
+            room as usize
+        );
     }
     Ok(())
 }
@@ -151,7 +178,13 @@ fn run_both(rt: &impl Abort, alloc: Global, limit: u32, chunk: u32, room: u32, m
 #[test]
 fn two_stashes(rt: HostRuntime) -> Result<(), Fail> {
     let alloc = rt.alloc();
-    for (limit, chunk, room, most) in [(3, 2, 6, 8), (1, 3, 4, 5), (4, 1, 9, 7), (2, 0, 30, 2), (5, 2, 0, 12)] {
+    for (limit, chunk, room, most) in [
+        (3, 2, 6, 8),
+        (1, 3, 4, 5),
+        (4, 1, 9, 7),
+        (2, 0, 30, 2),
+        (5, 2, 0, 12),
+    ] {
         run_both(&rt, alloc, limit, chunk, room, most)?;
     }
     Ok(())

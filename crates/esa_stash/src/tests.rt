@@ -1,7 +1,5 @@
 //! Worked cases of the stash, and a stash that is a plain list of pairs beside it.
 
-
-
 use crate::{Cells, Left, Overflow, Stash};
 use esa_report::{Item, Kind};
 use std::alloc::{AllocError, Global};
@@ -73,7 +71,12 @@ fn arena_full(rt: HostRuntime) -> Result<(), Fail> {
     let mut stash = Stash::make(alloc, 2, 1, 2)?;
     let mut chunks = [real(7); 2];
     let mut counts = [9; 2];
-    let done = stash.exchange(&[0, 0, 0], &[real(10), real(11), real(12)], &mut chunks, &mut counts);
+    let done = stash.exchange(
+        &[0, 0, 0],
+        &[real(10), real(11), real(12)],
+        &mut chunks,
+        &mut counts,
+    );
     assert_eq!(rt; done, Ok(()));
     assert_eq!(rt; stash.cells().free(), 0);
     let done = stash.exchange(&[0, 0], &[real(13), real(14)], &mut chunks, &mut counts);
@@ -97,7 +100,12 @@ fn clear_in_the_middle(rt: HostRuntime) -> Result<(), Fail> {
     let mut stash = Stash::make(alloc, 2, 1, 3)?;
     let mut chunks = [real(7); 2];
     let mut counts = [9; 2];
-    let done = stash.exchange(&[0, 1, 0, 1], &[real(10), real(11), real(12), real(13)], &mut chunks, &mut counts);
+    let done = stash.exchange(
+        &[0, 1, 0, 1],
+        &[real(10), real(11), real(12), real(13)],
+        &mut chunks,
+        &mut counts,
+    );
     assert_eq!(rt; done, Ok(()));
     stash.clear();
     assert_eq!(rt; stash.cells().free(), 3);
