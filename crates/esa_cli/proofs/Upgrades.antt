@@ -12,4 +12,4 @@ longest_two One n short = omega arith
 longest_two Two n short = short
 
 pub values_fit : (form : Form) (database : Database) → IsDatabase form database → All (λ row. length row.0 ≤ longest Two) database.rows
-values_fit form database is = All-weaker (IsRow form) (λ row. length row.0 ≤ longest Two) (λ row fits. longest_two form (length row.0) fits.short) database.rows is.rows
+values_fit form database is = All-weaker (IsRow (longest form)) (λ row. length row.0 ≤ longest Two) (λ row fits. longest_two form (length row.0) fits.short) database.rows is.rows

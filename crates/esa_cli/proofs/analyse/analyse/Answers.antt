@@ -19,4 +19,4 @@ pub returns : goal.returns
 returns g c =
     let output : name_of (request_of c.in_ok-tallied.tallied.job) field.Output ≡ c.output.result.now = ap (λ name. unwrap_or name []) c.output.ensures in
     ends_work (analyse_steps c.args.name.now) _ _ _ _ _ _ _ _ _ _ (tallied_work c.in_ok-tallied.tallied) _
-        (λ told is. (c.in_ok-tallied.ensures.judged told is).0) c.in_ok-tallied.ensures.counted c.count_in.ensures.told (rw output c.work.ensures)
+    (λ told is. (c.in_ok-tallied.ensures.judged told is).0) c.in_ok-tallied.ensures.counted c.count_in.ensures.told (rw output c.work.ensures)

@@ -19,5 +19,5 @@ returns-in_err-db-clause-judged g c files told =
     let taken = c.in_ok-job.ensures.judged files told in
     let first = λ (r : _). ap (λ step. step >>= load_asked command r) taken.0 in
     rw (p.1, p.2) (stops_too (load_steps command c.args.name.now) (database_file command job) (λ _ stored. accepted (job, stored)) read source.Input _ _ _ _
-        (database_miss command job) (first read) (first (without source.Input read)) taken.1
-        (c.in_err-db.ensures.judged files (c.take_job.ensures.told ∙ told)))
+    (database_miss command job) (first read) (first (without source.Input read)) taken.1
+    (c.in_err-db.ensures.judged files (c.take_job.ensures.told ∙ told)))
