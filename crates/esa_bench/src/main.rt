@@ -26,26 +26,25 @@ fn main(rt: HostRuntime) -> Result<()> {
         stash::fill(&rt, 4_000, Then::Exchanges(2))?;
         return turnstile::small(&rt, rt.alloc());
     };
-    let size = match words.next() {
-        Some(text) => text.parse::<u64>().context("a size")?,
-        None => bail!("a module's name wants a size"),
-    };
+    let size = number(words.next())?;
     if module.as_str() == "turnstile" {
-        let mut more = [0u64; 3];
-        for number in more.iter_mut() {
-            if let Some(text) = words.next() {
-                *number = text.parse::<u64>().context("a number")?;
-            }
-        }
         let load = Load {
             turns: size,
-            threads: more[0],
-            inside: more[1],
-            outside: more[2],
+            threads: number(words.next())?,
+            inside: number(words.next())?,
+            outside: number(words.next())?,
         };
         return turnstile::measure(&rt, rt.alloc(), &load);
     }
     run(&rt, module.as_str(), size)
+}
+
+/// The number that a word of the command line is, or 0 where there is no more word.
+fn number(word: Option<String>) -> Result<u64> {
+    match word {
+        Some(text) => text.parse::<u64>().context("a number"),
+        None => Ok(0),
+    }
 }
 
 /// Does the work of one module once, at a size.
