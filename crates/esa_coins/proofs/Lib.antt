@@ -1,0 +1,2 @@
+pub mod RandomRange
+pub mod Found

@@ -1,0 +1,87 @@
+//! Whether coins keep what they promise, by looking.
+
+ghost use Rattle.std.specs.Prelude.{◌≡◌, ◌+◌, ◌-◌, ◌*◌, ◌^◌, ◌<◌, ◌≤◌, true, length, All, IsPermutation};
+ghost use Rattle.esa_params.specs.Sizes.{size, below};
+
+use esa_params::Plan;
+use esa_spec::Coins;
+
+/// Draws the targets of a bucket twice, and says whether they are the same ones and each names a bucket. They always
+/// are: the answer is proved from what all coins promise, and a body that looks shows that callers can rest on it.
+pub fn targets_hold<C: Coins>(
+    coins: &C,
+    attempt: u32,
+    bucket: u32,
+    room: &mut [u32],
+    first: &mut [u32],
+    second: &mut [u32],
+) -> bool
+    requires attempt_planned { attempt < (C.plan coins.now).attempts }
+    requires bucket_planned { bucket < (C.plan coins.now).b }
+    requires room_to_draw { length room.old ≡ size (C.plan coins.now) bucket + (C.plan coins.now).b - 1 }
+    requires room_for_first { length first.old ≡ size (C.plan coins.now) bucket }
+    requires room_for_second { length second.old ≡ size (C.plan coins.now) bucket }
+    ensures { result ≡ true }
+{
+    coins.targets(attempt, bucket, room, first);
+    coins.targets(attempt, bucket, room, second);
+    let buckets = coins.plan().b();
+    are_below(first, buckets) && are_same(first, second)
+}
+
+/// Draws the order of a target twice, and says whether it is the same one and names each place of an import once. It
+/// always does.
+pub fn order_holds<C: Coins>(
+    coins: &C,
+    attempt: u32,
+    target: u32,
+    first: &mut [u32],
+    second: &mut [u32],
+) -> bool
+    requires attempt_planned { attempt < (C.plan coins.now).attempts }
+    requires target_planned { target < (C.plan coins.now).b }
+    requires room_for_first { length first.old ≡ (C.plan coins.now).b * (C.plan coins.now).c + (C.plan coins.now).k }
+    requires room_for_second { length second.old ≡ (C.plan coins.now).b * (C.plan coins.now).c + (C.plan coins.now).k }
+    ensures { result ≡ true }
+{
+    coins.order(attempt, target, first);
+    coins.order(attempt, target, second);
+    let places = import_places(&coins.plan());
+    names_each(first, places) && are_same(first, second)
+}
+
+// The places of an import: its chunks and its tail.
+pub(crate) fn import_places(plan: &Plan) -> u32
+    ensures { result ≡ plan.now.b * plan.now.c + plan.now.k }
+{
+    plan.b() * plan.c() + plan.k()
+}
+
+fn are_below(numbers: &[u32], bound: u32) -> bool
+    ensures { All (λ number. number < bound) numbers.now → result ≡ true }
+{
+    for number in numbers {
+        if *number >= bound {
+            return false;
+        }
+    }
+    true
+}
+
+fn are_same(first: &[u32], second: &[u32]) -> bool
+    ensures { first.now ≡ second.now → result ≡ true }
+{
+    first == second
+}
+
+// Whether each number below `places` is there.
+fn names_each(order: &[u32], places: u32) -> bool
+    ensures { IsPermutation (below places) order.now → result ≡ true }
+{
+    for number in 0..places {
+        if !order.contains(&number) {
+            return false;
+        }
+    }
+    true
+}

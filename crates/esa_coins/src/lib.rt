@@ -1,0 +1,18 @@
+//! Coins: what a shuffle draws, from a seed.
+//!
+//! Coins give for each attempt and bucket a list of targets, and for each target an order. `SeededCoins` draws them from
+//! a seed by ChaCha20, each target by itself or all of a bucket together, among separators: by the definitions of the
+//! kit's `rand` and `rand_chacha`, so that another program over the same crates draws the same numbers. The crate gives
+//! out the trait `Coins` of `esa_spec` and the `Draw` of `esa_job` again.
+#![tactic(auto)]
+
+mod check;
+mod draws;
+mod seeded;
+#[cfg(test)]
+mod tests;
+
+pub use check::{order_holds, targets_hold};
+pub use esa_job::Draw;
+pub use esa_spec::Coins;
+pub use seeded::SeededCoins;
