@@ -8,12 +8,10 @@
 
 mod bare;
 mod forward;
-mod stash;
 mod turnstile;
 
 use anyhow::{Context, Result, bail};
 use forward::Values;
-use stash::Then;
 use std::env;
 use std::rt::Files;
 use turnstile::Load;
@@ -23,7 +21,6 @@ fn main(rt: HostRuntime) -> Result<()> {
     let _program = words.next();
     let Some(module) = words.next() else {
         bare::small(&rt)?;
-        stash::fill(&rt, 4_000, Then::Exchanges(2))?;
         return turnstile::small(&rt, rt.alloc());
     };
     let size = number(words.next())?;
@@ -54,8 +51,6 @@ fn run<R: Print + Files + AllocGlobal>(rt: &R, module: &str, size: u64) -> Resul
         "keystream" => bare::keystream(rt, size),
         "forward-seven" => forward::write(rt, Values::Seven, size),
         "forward-distinct" => forward::write(rt, Values::Distinct, size),
-        "stash-filled" => stash::fill(rt, size, Then::Nothing),
-        "stash-exchanged" => stash::fill(rt, size, Then::Exchanges(20)),
         _ => bail!("no such module"),
     }
 }
