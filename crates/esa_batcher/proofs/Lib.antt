@@ -1,0 +1,4 @@
+pub mod Parts
+pub mod RisingLaws
+pub mod BatchLaws
+pub mod Held
