@@ -3,7 +3,7 @@ use Rattle.std.proofs.Common.{◌≡◌, ℕ, suc, zero, ◌+◌, ◌-◌, ◌*�
 use Rattle.std.specs.Simd.{first_chunks}
 use Rattle.std.specs.List.{concat}
 use Rattle.std.proofs.Math.Nat.{mul-le-mul_right}
-use Rattle.std.proofs.lemmas.List.{drop-drop}
+use Rattle.std.proofs.lemmas.List.{drop-drop, length-take, length-drop}
 use Rattle.esa_header.specs.Pieces.{pieces, HaveLength}
 use Rattle.esa_header.proofs.HeaderLaws.{take_split}
 use Rattle.esa_header.proofs.PieceLaws.{pieces-concat, length-concat}
@@ -63,3 +63,10 @@ joined-inside size list have first n out part within = part-inside size (length 
 pub pieces-chunks : (size count : ℕ) (bytes : List ℕ) → first_chunks size count bytes ≡ pieces size count bytes
 pieces-chunks size zero bytes = refl
 pieces-chunks size (suc count) bytes = ap (λ rest. take size bytes ∷ rest) (pieces-chunks size count (drop size bytes))
+
+-- pieces that lie inside have their length
+pub HaveLength-front : (size n : ℕ) (bytes : List ℕ) → n * size ≤ length bytes → HaveLength size (pieces size n bytes)
+HaveLength-front size zero bytes enough k d below = absurd (omega arith)
+HaveLength-front size (suc n) bytes enough zero d below = let fits : size + n * size ≡ suc n * size = one_more size n in omega (arith, length-take size bytes)
+HaveLength-front size (suc n) bytes enough (suc k) d below =
+    HaveLength-front size n (drop size bytes) (let fits : size + n * size ≡ suc n * size = one_more size n in omega (arith, length-drop size bytes)) k d (omega arith)

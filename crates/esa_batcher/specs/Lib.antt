@@ -1,5 +1,6 @@
 pub mod Batched
 pub mod Envelopes
+pub mod InFile
 pub mod Inside
 pub mod Reading
 pub mod Refusal

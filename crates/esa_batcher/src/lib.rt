@@ -7,10 +7,12 @@
 
 mod batch;
 mod envelopes;
+mod file;
 mod read;
 mod refused;
 mod rising;
 
 pub use batch::{Batch, MOST_RECORDS};
+pub use file::{BatchFile, Standing};
 pub use read::read_batch;
 pub use refused::BatchRefused;
