@@ -9,6 +9,8 @@
 mod counts;
 mod device;
 mod memory;
+mod recorder;
 
 pub use device::{Device, LayRefused};
 pub use memory::{Flip, MemDevice};
+pub use recorder::Recorder;
