@@ -1,0 +1,5 @@
+pub mod Blocks
+pub mod Counting
+pub mod Laying
+pub mod Memory
+pub mod Recording
