@@ -1,0 +1,2 @@
+pub mod Front
+pub use Rattle.esa_bytes.specs.Decimal
