@@ -6,13 +6,20 @@
 //! out the trait `Coins` of `esa_spec` and the `Draw` of `esa_job` again.
 #![tactic(auto)]
 
+mod attempt;
 mod check;
 mod draws;
+mod lists;
+mod orders;
+mod refused;
 mod seeded;
+mod table;
 #[cfg(test)]
 mod tests;
 
 pub use check::{order_holds, targets_hold};
 pub use esa_job::Draw;
 pub use esa_spec::Coins;
+pub use refused::CoinsRefused;
 pub use seeded::SeededCoins;
+pub use table::TableCoins;

@@ -1,6 +1,7 @@
 -- An item's bytes give the item back, and the other way round.
-use Rattle.std.proofs.Common.{◌≡◌, ℕ, ◌-◌, ◌<◌, ◌≤◌, suc, true, List, [], ◌∷◌, ◌++◌, length, take, drop, Option, Some, None, refl, sym, ap, ◌∙◌, arith, length-drop, inl, inr}
-use Rattle.std.specs.Prelude.{replicate, IfSome}
+use Rattle.std.proofs.Common.{◌≡◌, ℕ, ◌-◌, ◌<◌, ◌≤◌, suc, true, List, [], ◌∷◌, ◌++◌, length, take, drop, Option, Some, None, refl, sym, ap, ◌∙◌, arith, eqb, length-drop, inl, inr}
+use Rattle.std.specs.Prelude.{replicate, IfSome, ◌&&◌, if◌then◌else◌}
+use Rattle.std.specs.Option.{option_map}
 use Rattle.std.proofs.lemmas.Bool.{cases_Bool}
 use Rattle.std.proofs.lemmas.List.{append-nil, drop_all, length-take-le, take-append-drop, take_at}
 use Rattle.std.proofs.Math.ListN.{set}
@@ -10,7 +11,7 @@ use Rattle.esa_report.specs.declared.item.Kind.{Kind}
 use Rattle.esa_report.specs.declared.item.Kind.TheVariants.{Dummy, Real, Malformed}
 use Rattle.esa_report.specs.Zero.{is_zero}
 use Rattle.esa_report.specs.Item.{full_body, is_body_of, is_well_formed, item_bytes, item_in, item_of, kind_byte, kind_in}
-use Rattle.esa_report.proofs.ZeroLemmas.{replicate-zero}
+use Rattle.esa_report.proofs.ZeroLemmas.{is_zero-replicate, replicate-zero}
 
 -- a body whose rest is zero comes back from its front
 pub full_body-take : (body : List ℕ) (n : ℕ) → length body ≡ 264 → n ≤ 264 → is_zero (drop n body) ≡ true
@@ -65,3 +66,24 @@ put_behind (first ∷ rest) part byte some =
     let size : suc (length rest) - 1 ≡ length rest = omega arith in
     rw size
     (ap (λ more. byte ∷ (part ++ more)) (drop_all (length rest) rest (omega arith)) ∙ ap (λ more. byte ∷ more) (append-nil part))
+
+is_zero-append : (xs ys : List ℕ) → is_zero ys ≡ true → is_zero (xs ++ ys) ≡ is_zero xs
+is_zero-append [] ys h = h
+is_zero-append (x ∷ xs) ys h = ap (λ rest. eqb x 0 && rest) (is_zero-append xs ys h)
+
+-- the zero bytes behind a body change nothing of whether it is zero
+pub is_zero-full_body : (body : List ℕ) → is_zero (full_body body) ≡ is_zero body
+is_zero-full_body body = is_zero-append body (replicate (264 - length body) 0) (is_zero-replicate (264 - length body))
+
+-- the kind of an item, where its body fits it
+pub item_of_full : (kind : Kind) (body : List ℕ) → option_map (λ (item : Item). item.kind) (item_of (Some kind) (full_body body))
+    ≡ (if is_body_of kind body then Some kind else None)
+item_of_full Real body = refl
+item_of_full Dummy body = elim (cases_Bool (is_zero body)) [
+  | inl zero ↦ rw (is_zero-full_body body, zero) refl
+  | inr not ↦ rw (is_zero-full_body body, not) refl
+]
+item_of_full Malformed body = elim (cases_Bool (is_zero body)) [
+  | inl zero ↦ rw (is_zero-full_body body, zero) refl
+  | inr not ↦ rw (is_zero-full_body body, not) refl
+]

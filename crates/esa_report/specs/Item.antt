@@ -1,5 +1,6 @@
 -- The items of a block: a byte for the kind, and the body.
 use Rattle.std.specs.Prelude.{◌≡◌, ℕ, ◌-◌, ◌==◌, Bool, true, ◌⊎◌, if◌then◌else◌, List, ◌∷◌, ◌++◌, length, take, drop, replicate, slice_index, Option, Some, None}
+use Rattle.std.specs.Option.{option_map}
 use Rattle.esa_report.specs.Zero.{is_zero}
 use Rattle.esa_report.specs.declared.item.Item.{Item}
 use Rattle.esa_report.specs.declared.item.Kind.{Kind}
@@ -60,3 +61,7 @@ item_of (Some kind) body =
 -- the item that bytes hold
 unfoldable pub item_in : List ℕ → Option Item
 item_in bytes = item_of (kind_in (slice_index bytes 0)) (full_body (drop 1 bytes))
+
+-- the kind of the item that bytes hold
+abbrev pub kind_held : List ℕ → Option Kind
+kind_held bytes = option_map (λ (item : Item). item.kind) (item_in bytes)

@@ -2,7 +2,7 @@
 
 ghost use Rattle.std.specs.Prelude.{◌≡◌, ◌+◌, ◌-◌, ◌≤◌, length, drop, Some, IsTrue, IfSome};
 ghost use Rattle.esa_report.specs.Zero.{is_zero};
-ghost use Rattle.esa_report.specs.Item.{IsItemLength, dummy_item, full_body, is_well_formed, item_bytes, item_in, malformed_item};
+ghost use Rattle.esa_report.specs.Item.{IsItemLength, dummy_item, full_body, is_well_formed, item_bytes, item_in, kind_held, malformed_item};
 
 use crate::zero::is_zero;
 
@@ -123,6 +123,20 @@ pub fn item_at(bytes: &[u8]) -> Option<Item>
         return None;
     }
     Some(item)
+}
+
+/// The kind of the item that 137 or 265 bytes hold, without a copy of its body. None exactly where
+/// [`item_at`] gives none.
+#[tactic(auto, unfolding(crate::specs::Item::item_in), using(crate::proofs::ItemLemmas::item_of_full))]
+pub fn kind_at(bytes: &[u8]) -> Option<Kind>
+    requires { IsItemLength (length bytes.now) }
+    ensures { result ≡ kind_held bytes.now }
+{
+    let kind = Kind::of(bytes[0])?;
+    if kind != Kind::Real && !is_zero(&bytes[1..]) {
+        return None;
+    }
+    Some(kind)
 }
 
 /// The bytes, followed by zero bytes up to the longest body.

@@ -12,5 +12,5 @@ mod tests;
 mod zero;
 
 pub use crowd::crowd_of;
-pub use item::{Item, Kind, item_at};
+pub use item::{Item, Kind, item_at, kind_at};
 pub use report::{TooLong, code, value_of};

@@ -1,0 +1,12 @@
+pub mod Batched
+pub mod Envelopes
+pub mod InFile
+pub mod Inside
+pub mod Reading
+pub mod Refusal
+pub mod Rising
+pub use Rattle.esa_header.specs.Header
+pub use Rattle.esa_header.specs.Version
+pub use Rattle.esa_header.specs.Pieces
+pub use Rattle.esa_params.specs.Form
+pub use Rattle.esa_lists.specs.Ordered

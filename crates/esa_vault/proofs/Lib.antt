@@ -1,0 +1,6 @@
+pub mod BlockLaws
+pub mod FilledLemmas
+pub mod GetLaws
+pub mod ItemLemmas
+pub mod LatestLaws
+pub mod TextLaws

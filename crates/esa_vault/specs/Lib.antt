@@ -1,0 +1,11 @@
+pub use Rattle.esa_device.specs.Blocks
+pub use Rattle.esa_device.specs.Recording
+pub use Rattle.esa_envelope.specs.Envelope
+pub use Rattle.esa_params.specs.Slots
+pub use Rattle.esa_report.specs.Item
+pub mod Filled
+pub mod Items
+pub mod Latest
+pub mod Placed
+pub mod Seals
+pub mod Traffic

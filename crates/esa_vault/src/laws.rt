@@ -1,0 +1,90 @@
+//! Laws over sealed blocks: each is what a function with an empty body ensures.
+//!
+//! The functions do nothing when they run. They are there so that each law is proved where a contract names it.
+
+ghost use Rattle.std.specs.Prelude.{◌≡◌, ◌≢◌, ℕ, ◌+◌, ◌*◌, ◌/◌, ◌^◌, ◌<◌, true, false, Some, None, All, List, [], ◌∷◌, ◌++◌, length, replicate, slice_get, slice_set, if◌then◌else◌};
+ghost use Rattle.esa_envelope.specs.Envelope.{nonce_in, sealed_as};
+ghost use Rattle.esa_envelope.specs.declared.keys.Keys.{Keys};
+ghost use Rattle.esa_envelope.specs.declared.label.Label.{Label};
+ghost use Rattle.esa_params.specs.Sizes.{Sizes, ArePlanned};
+ghost use Rattle.esa_params.specs.Slots.{IsPlanned, nonce_of};
+ghost use Rattle.esa_params.specs.declared.slot.Access.{Access};
+ghost use Rattle.esa_params.specs.declared.slot.Op.{Op};
+ghost use Rattle.esa_params.specs.declared.slot.Region.{Region};
+ghost use Rattle.esa_params.specs.declared.slot.Slot.{Slot};
+ghost use Rattle.esa_report.specs.declared.item.Item.{Item};
+ghost use Rattle.esa_report.specs.Item.{IsItemLength, dummy_item, item_in, kind_held};
+ghost use Rattle.esa_vault.specs.Seals.{is_text_of, opens, sealed_block, text_in};
+ghost use Rattle.esa_vault.specs.Filled.{bytes_at, is_filled, suits, text_of};
+ghost use Rattle.esa_vault.specs.Latest.{AllHoldLatest, HoldsLatest, latest_write, slot_number, writes_to};
+ghost use Rattle.esa_vault.specs.Placed.{IsHeld, IsSpelled};
+
+/// The block that was sealed for a slot in an attempt opens for them to what was sealed, and for a count exactly
+/// where that is the text of a block with so many items.
+pub fn sealed_blocks_open()
+    ensures text { (p : Sizes) (keys : Keys) (slot : Slot) (attempt : ℕ) (text : List ℕ)
+        → ArePlanned p → IsPlanned p slot → attempt < 2 ^ 32
+        → text_in p keys slot attempt (sealed_block p keys slot attempt text) ≡ Some text }
+    ensures opens { (p : Sizes) (keys : Keys) (slot : Slot) (attempt count : ℕ) (text : List ℕ)
+        → ArePlanned p → IsPlanned p slot → attempt < 2 ^ 32
+        → opens p keys slot attempt count (sealed_block p keys slot attempt text) ≡ is_text_of p slot.region count text }
+{}
+
+/// Bytes with another nonce don't open: so neither does a block of another slot, nor, outside of `Input`, one of
+/// another attempt.
+pub fn other_nonces_do_not_open()
+    ensures nonce { (p : Sizes) (keys : Keys) (slot : Slot) (attempt count : ℕ) (bytes : List ℕ)
+        → nonce_in bytes ≢ nonce_of p attempt slot → opens p keys slot attempt count bytes ≡ false }
+    ensures slot { (p : Sizes) (keys : Keys) (slot other : Slot) (attempt earlier count : ℕ) (text : List ℕ)
+        → ArePlanned p → IsPlanned p slot → IsPlanned p other → attempt < 2 ^ 32 → earlier < 2 ^ 32 → slot ≢ other
+        → opens p keys slot attempt count (sealed_block p keys other earlier text) ≡ false }
+    ensures attempt { (p : Sizes) (keys : Keys) (slot : Slot) (attempt earlier count : ℕ) (text : List ℕ)
+        → ArePlanned p → IsPlanned p slot → attempt < 2 ^ 32 → earlier < 2 ^ 32 → slot.region ≢ Region.Input → attempt ≢ earlier
+        → opens p keys slot attempt count (sealed_block p keys slot earlier text) ≡ false }
+{}
+
+/// Items that aren't dummies make, with dummies behind them, the text of a block with so many items, and each item
+/// is found again at its place.
+pub fn items_fill_a_block()
+    ensures length { (size : ℕ) (items : List Item) → IsItemLength size → All (IsSpelled size) items
+        → length (text_of size items) ≡ length items * size }
+    ensures item { (size place : ℕ) (items : List Item) → IsItemLength size → All (IsSpelled size) items → place < length items
+        → item_in (bytes_at size (text_of size items) place) ≡ slice_get items place }
+    ensures filled { (size dummies : ℕ) (items : List Item) → IsItemLength size → All (IsSpelled size) items → All IsHeld items
+        → is_filled size (length items) (text_of size (items ++ replicate dummies dummy_item)) ≡ true }
+{}
+
+/// Each place of a block that opened holds a well formed item: up to the count one that is no dummy, and then
+/// dummies.
+pub fn each_place_suits()
+    ensures { (size count place : ℕ) (text : List ℕ) → is_filled size count text ≡ true → place < length text / size
+        → suits count place (kind_held (bytes_at size text place)) ≡ true }
+{}
+
+/// Before any access no slot must hold a seal.
+pub fn nothing_written()
+    ensures { (p : Sizes) (keys : Keys) (text : Access → List ℕ) (held : List (List ℕ)) → AllHoldLatest p keys text held [] }
+{}
+
+/// A read changes nothing of what the slots must hold.
+pub fn one_read_more()
+    ensures latest { (p : Sizes) (number : ℕ) (accesses : List Access) (access : Access)
+        → access.op ≡ Op.Read → latest_write p number (accesses ++ access ∷ []) ≡ latest_write p number accesses }
+    ensures holds { (p : Sizes) (keys : Keys) (text : Access → List ℕ) (held : List (List ℕ)) (accesses : List Access) (access : Access)
+        → access.op ≡ Op.Read → AllHoldLatest p keys text held accesses
+        → AllHoldLatest p keys text held (accesses ++ access ∷ []) }
+{}
+
+/// A write is the latest of its slot, and of no other. What it seals stands there, and whatever a failed one leaves
+/// there, the other slots are as they were.
+pub fn one_write_more()
+    ensures latest { (p : Sizes) (number : ℕ) (accesses : List Access) (access : Access)
+        → access.op ≡ Op.Write → latest_write p number (accesses ++ access ∷ [])
+        ≡ (if writes_to p number access then Some access else latest_write p number accesses) }
+    ensures holds { (p : Sizes) (keys : Keys) (text : Access → List ℕ) (held : List (List ℕ)) (accesses : List Access) (access : Access)
+        → access.op ≡ Op.Write → slot_number p access < length held → AllHoldLatest p keys text held accesses
+        → AllHoldLatest p keys text (slice_set held (slot_number p access) (sealed_as keys Label.Block access.nonce (text access))) (accesses ++ access ∷ []) }
+    ensures others { (p : Sizes) (keys : Keys) (text : Access → List ℕ) (held : List (List ℕ)) (accesses : List Access) (access : Access) (number : ℕ) (bytes : List ℕ)
+        → number ≢ slot_number p access → HoldsLatest p keys text held accesses number
+        → HoldsLatest p keys text (slice_set held (slot_number p access) bytes) (accesses ++ access ∷ []) number }
+{}

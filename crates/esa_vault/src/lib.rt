@@ -1,0 +1,21 @@
+//! Sealed blocks in an external memory that isn't trusted.
+//!
+//! A block is sealed under the run key with the nonce of its slot and attempt. What is read back is taken only
+//! where it opens: the nonce and the tag agree, and the items are as many as the shuffler wrote there. The
+//! crate stands on `esa_device` for the memory, `esa_envelope` for the seals, `esa_params` for the slots and
+//! `esa_report` for the items. No call takes memory.
+#![tactic(auto)]
+
+mod block;
+mod fault;
+mod filled;
+mod get;
+mod item;
+pub mod laws;
+mod put;
+
+pub use block::{seal_block, seal_block_with};
+pub use fault::VaultFault;
+pub use get::{get_block, get_block_with};
+pub use item::{item_of, item_with};
+pub use put::{put_block, put_block_with, write_block};
