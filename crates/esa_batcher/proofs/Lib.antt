@@ -3,3 +3,9 @@ pub mod RisingLaws
 pub mod BatchLaws
 pub mod Held
 pub mod InFileLaws
+pub mod OrderLaws
+pub mod FrontLaws
+pub mod ScanLaws
+pub mod Writing
+pub mod GatheringLaws
+pub mod LinesLaws

@@ -1,14 +1,17 @@
 //! A batch that lies in memory.
 
-ghost use Rattle.std.specs.Prelude.{◌≡◌, ◌*◌, ◌+◌, ◌≤◌, ◌<◌, ℕ, List, Some, length, take, drop, slice_index_or, []};
+ghost use Rattle.std.specs.Prelude.{◌≡◌, ◌*◌, ◌+◌, ◌≤◌, ◌<◌, ℕ, List, Some, OnOk, OnErr, length, take, drop, slice_index_or, []};
 ghost use Rattle.std.specs.List.{concat};
 ghost use Rattle.esa_header.specs.Header.{header_length};
 ghost use Rattle.esa_params.specs.Form.{envelope_length};
-ghost use Rattle.esa_batcher.specs.Batched.{batch_front};
+ghost use Rattle.esa_batcher.specs.Batched.{batch_front, batch_bytes};
+ghost use Rattle.esa_outside.specs.Cause.{HasCause};
+ghost use Rattle.esa_page.specs.Underway.{IsWhole, IsLeft};
 
 use crate::envelopes::Envelopes;
+use crate::write::write_parts;
 use esa_header::{FileKind, Header, put_header};
-use esa_outside::{Failed, Records};
+use esa_outside::{Cabinet, Failed, Records};
 use esa_params::Form;
 use std::marker::Model;
 
@@ -79,6 +82,19 @@ impl Batch {
             count: self.envelopes.len() as u32,
         };
         put_header(FileKind::Batch, &header, out)
+    }
+
+    /// Writes the batch as a file, which starts anew. It takes no memory.
+    pub fn write<K: Cabinet>(&self, cabinet: &mut K, name: &str) -> Result<(), Failed>
+        ensures whole { OnOk result (IsWhole (K.told cabinet.old) name.now (batch_bytes self.now) (K.told cabinet.new)) }
+
+        // A failed call leaves the file as it was, or a front of the whole file.
+        ensures left { OnErr result (IsLeft (K.told cabinet.old) name.now (batch_bytes self.now) (K.told cabinet.new)) }
+        ensures cause { HasCause (K.faults cabinet.old) (K.faults cabinet.new) ⊥ result }
+    {
+        let mut front = [0; 15];
+        let length = self.header(&mut front);
+        write_parts(cabinet, name, &front[..length], self.envelopes.bytes())
     }
 }
 

@@ -28,9 +28,10 @@ impl Model for Standing {
 /// The records of a batch file, which are read when they are asked for.
 ///
 /// It tells the records of its file where its cabinet tells the file, and its faults are its cabinet's.
-pub struct BatchFile<'a, K: Cabinet> {
+#[derive(Drop)]
+pub struct BatchFile<'a, 'n, K: Cabinet> {
     pub cabinet: &'a mut K,
-    pub name: &'a str,
+    pub name: &'n str,
     /// The place of the first record's first byte.
     pub start: u32,
     /// The length of a record, in bytes.
@@ -40,7 +41,7 @@ pub struct BatchFile<'a, K: Cabinet> {
     ghost whole: { Lacks (K.told cabinet.now) name.now (start + count * size) → ⊥ },
 }
 
-impl<'a, K: Cabinet> Records for BatchFile<'a, K> {
+impl<'a, 'n, K: Cabinet> Records for BatchFile<'a, 'n, K> {
     type Ground = Standing;
 
     ghost told = { λ batch. records_of (K.told batch.cabinet.now) batch.name.now batch.start batch.size batch.count };

@@ -6,6 +6,7 @@ ghost use Rattle.esa_batcher.specs.Refusal.{refusal_of};
 
 use esa_bytes::Cut;
 use esa_header::HeaderRefused;
+use esa_line::LineRefused;
 use std::alloc::AllocError;
 
 /// The first test that a batch file fails, in this order, or want of memory.
@@ -59,4 +60,18 @@ impl From<AllocError> for BatchRefused {
     fn from(_: AllocError) -> Self {
         BatchRefused::OutOfMemory
     }
+}
+
+/// Why a submission line was not added to a batch.
+#[derive(Clone, Copy, PartialEq, Eq, Debug)]
+pub enum AddRefused {
+    /// The line is refused.
+    Line(LineRefused),
+    /// As many envelopes are held as a batch has. It is tested before the line is looked at.
+    TooMany {
+        /// How many envelopes there would be: 262,145.
+        n: u64,
+    },
+    /// There is no memory for the envelope.
+    OutOfMemory,
 }

@@ -4,8 +4,10 @@
 //! refused for its first cause. The crate takes no memory. It stands on `esa_bytes`.
 #![tactic(auto)]
 
+mod count;
 mod front;
 mod refused;
 
+pub use count::line_count;
 pub use front::{check_front, split_tab};
 pub use refused::{LineCause, LineRefused};

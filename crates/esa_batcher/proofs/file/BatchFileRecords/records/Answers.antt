@@ -18,6 +18,6 @@ returns-clause-records g c = λ records n is part within.
 pub returns-clause-cause : goal.returns-clause-cause
 returns-clause-cause g c =
     HasCause-own _ _ _ c.read_at.result
-      (not_missing (g.K.Cabinet.told c.args.self.now.cabinet.now) c.args.self.now.name.now ((c.args.self.now.start + c.args.first * c.args.self.now.size) + length c.args.out.now) (c.args.self.now.start + c.args.self.now.count * c.args.self.now.size)
-        (inside c.args.self.now.start c.args.self.now.size c.args.self.now.count c.args.first c.requires.whole.0 (length c.args.out.now) c.requires.whole.1 c.requires.whole.2) c.args.self.now.whole)
-      c.read_at.ensures.cause
+    (not_missing (g.K.Cabinet.told c.args.self.now.cabinet.now) c.args.self.now.name.now ((c.args.self.now.start + c.args.first * c.args.self.now.size) + length c.args.out.now) (c.args.self.now.start + c.args.self.now.count * c.args.self.now.size)
+    (inside c.args.self.now.start c.args.self.now.size c.args.self.now.count c.args.first c.requires.whole.0 (length c.args.out.now) c.requires.whole.1 c.requires.whole.2) c.args.self.now.whole)
+    c.read_at.ensures.cause
