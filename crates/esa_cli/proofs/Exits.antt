@@ -1,11 +1,12 @@
 -- Where a later step ends the taking in, the steps as a whole end so too.
-use Rattle.std.proofs.Common.{◌≡◌, ℕ, true, false, cond, List, length, Option, Some, None, sym, ap, ◌∙◌, subst, inl, inr, ⊎_elim}
+use Rattle.std.proofs.Common.{◌≡◌, ◌⊎◌, ℕ, Bool, true, false, cond, List, length, Option, Some, None, refl, sym, ap, ◌∙◌, subst, inl, inr, ⊎_elim}
 use Rattle.std.specs.Prelude.{nat_lt}
 use Rattle.esa_job.specs.declared.command.Command.{Command}
 use Rattle.esa_outside.specs.Cause.{Rose}
 use Rattle.esa_cli.specs.declared.source.Source.{Source}
 use Rattle.esa_cli.specs.declared.stop.Stop.{Stop}
 use Rattle.esa_cli.specs.declared.stop.Stop.TheVariants.{Refused, Unread, OutOfMemory, Unwritten, Unprinted}
+use Rattle.esa_cli.specs.declared.refusal.Refusal.{Refusal}
 use Rattle.esa_cli.specs.declared.refusal.Refusal.TheVariants.{Large}
 use Rattle.esa_cli.specs.Source.{role_of, limit_of}
 use Rattle.esa_cli.specs.Step.{Step, ◌>>=◌, accepted, refused, missing, Reads, without, within, file}
