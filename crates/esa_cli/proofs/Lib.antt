@@ -7,3 +7,4 @@ pub mod TakingExits
 pub mod Tops
 pub mod Counts
 pub mod Upgrades
+pub mod Submissions

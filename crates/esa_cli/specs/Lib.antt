@@ -1,8 +1,10 @@
 pub mod Analyse
+pub mod Batching
 pub mod Call
 pub mod Counting
 pub mod Ends
 pub mod Explains
+pub mod Gathered
 pub mod Judged
 pub mod Loaded
 pub mod Plain
