@@ -1,4 +1,4 @@
-use Rattle.esa_analyser.proofs.RunWriting.{OnOk-whole, OnErr-left, silent-still}
+use Rattle.esa_page.proofs.WritingLaws.{OnOk-whole, OnErr-left, silent-still}
 use Rattle.esa_batcher.specs.Batched.{batch_bytes}
 use Rattle.esa_cli.proofs.batch.write_batch.Goals as goal
 
