@@ -1,6 +1,7 @@
 pub mod Commands
 pub mod Ends
 pub mod Exits
+pub mod Generating
 pub mod PrintedLine
 pub mod JobCommand
 pub mod TakingExits

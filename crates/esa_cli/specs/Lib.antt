@@ -1,8 +1,10 @@
 pub mod Analyse
+pub mod Asked
 pub mod Call
 pub mod Counting
 pub mod Ends
 pub mod Explains
+pub mod Generate
 pub mod Judged
 pub mod Loaded
 pub mod Plain

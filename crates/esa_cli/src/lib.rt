@@ -3,6 +3,7 @@
 
 mod analyse;
 mod call;
+mod generate;
 mod line;
 mod plain;
 mod printing;
@@ -15,6 +16,7 @@ mod stored;
 mod taking;
 mod telling;
 mod words;
+mod writing;
 
 pub use plain::esa_plain;
 pub use refusal::Refusal;

@@ -10,6 +10,7 @@ ghost use Rattle.esa_cli.specs.Plain.{is_built, steps_of, IsExplained, IsUnbuilt
 
 use crate::analyse::analyse;
 use crate::call::{Call, call_of};
+use crate::generate::generate;
 use crate::refusal::Refusal;
 use crate::status::Status;
 use crate::stop::Stop;
@@ -31,6 +32,7 @@ fn run<K: Cabinet, P: Printer>(
     ensures unbuilt { is_built call.entry.command ≡ false → result ≡ Err (Stop.Refused (Refusal.NotBuilt call.entry.command)) }
 {
     match call.command {
+        Command::Gen => generate(alloc, cabinet, printer, call.job),
         Command::Analyse => analyse(alloc, cabinet, printer, call.job),
         Command::Histogram => histogram(alloc, cabinet, printer, call.job),
         Command::Upgrade => upgrade(alloc, cabinet, printer, call.job),
