@@ -5,6 +5,7 @@ pub mod Generating
 pub mod PrintedLine
 pub mod JobCommand
 pub mod TakingExits
+pub mod Reports
 pub mod Tops
 pub mod Counts
 pub mod Upgrades

@@ -2,6 +2,8 @@ pub mod Analyse
 pub mod Asked
 pub mod Call
 pub mod Counting
+pub mod Encode
+pub mod Encoding
 pub mod Ends
 pub mod Explains
 pub mod Generate

@@ -3,6 +3,7 @@
 
 mod analyse;
 mod call;
+mod encode;
 mod generate;
 mod line;
 mod plain;

@@ -10,6 +10,7 @@ ghost use Rattle.esa_cli.specs.Plain.{is_built, steps_of, IsExplained, IsUnbuilt
 
 use crate::analyse::analyse;
 use crate::call::{Call, call_of};
+use crate::encode::encode;
 use crate::generate::generate;
 use crate::refusal::Refusal;
 use crate::status::Status;
@@ -33,6 +34,7 @@ fn run<K: Cabinet, P: Printer>(
 {
     match call.command {
         Command::Gen => generate(alloc, cabinet, printer, call.job),
+        Command::Encode => encode(alloc, cabinet, printer, call.job),
         Command::Analyse => analyse(alloc, cabinet, printer, call.job),
         Command::Histogram => histogram(alloc, cabinet, printer, call.job),
         Command::Upgrade => upgrade(alloc, cabinet, printer, call.job),

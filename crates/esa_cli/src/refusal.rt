@@ -1,13 +1,14 @@
 //! Why a command was refused, and the text that says so.
 
 ghost use Rattle.std.specs.Prelude.{◌≡◌, ◌+◌, ◌≤◌, ◌++◌, length, codes};
-ghost use Rattle.esa_cli.specs.Refusal.{refusal_text, forward_text, database_text, cut_text, numbered};
+ghost use Rattle.esa_cli.specs.Refusal.{refusal_text, cause_word, line_text, forward_text, database_text, cut_text, numbered};
 
 use crate::line::Line;
 use crate::words::{word_of_param, word_of_role};
 use esa_analyser::DbRefused;
 use esa_bytes::Cut;
 use esa_job::{Command, JobField, KeyField};
+use esa_line::{LineCause, LineRefused};
 use esa_outside::Role;
 use esa_params::ParamField;
 use esa_threshold::ForwardRefused;
@@ -29,6 +30,8 @@ pub enum Refusal {
     Drops(u64),
     /// A line of the turns file, counted from 1.
     Turns(u64),
+    /// A line of reports or submissions.
+    Line(LineRefused),
     /// More lines than can be encoded or batched.
     Lines {
         /// Their number.
@@ -54,6 +57,7 @@ pub fn add_refusal(line: &mut Line, refusal: &Refusal)
         Refusal::Keys(field) => add_pair(line, "keys ", field.word()),
         Refusal::Drops(number) => add_numbered(line, "drops ", *number),
         Refusal::Turns(number) => add_numbered(line, "turns ", *number),
+        Refusal::Line(refused) => add_line(line, refused),
         Refusal::Lines { n } => add_numbered(line, "lines ", *n),
         Refusal::Forward(refused) => add_forward(line, refused),
         Refusal::Database(refused) => add_database(line, refused),
@@ -125,4 +129,28 @@ fn add_database(line: &mut Line, refused: &DbRefused)
         DbRefused::Trailing => line.word("trailing"),
         DbRefused::OutOfMemory => line.word("out-of-memory"),
     }
+}
+
+// The word of a cause.
+fn word_of_cause(cause: LineCause) -> &'static str
+    ensures word { result.now ≡ cause_word cause }
+    ensures short { length result.now ≤ 20 }
+{
+    match cause {
+        LineCause::MissingField => "missing-field",
+        LineCause::BadMoment => "bad-moment",
+        LineCause::BadSender => "bad-sender",
+        LineCause::TooLong => "too-long",
+        LineCause::BadHex => "bad-hex",
+    }
+}
+
+// Adds which line is refused, and why.
+fn add_line(line: &mut Line, refused: &LineRefused)
+    requires { length line.old ≤ 20 }
+    ensures { line.new ≡ line.old ++ line_text refused.now }
+{
+    add_numbered(line, "line ", refused.line);
+    line.word(" ");
+    line.word(word_of_cause(refused.cause));
 }

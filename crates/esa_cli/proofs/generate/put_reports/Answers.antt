@@ -33,9 +33,10 @@ loop-done-preserved g c =
     let state : c.next_state-state.result ≡ state_at number (done + 1) = c.next_state-state.ensures ∙ ap next_state i.state ∙ sym (state_next number done) in
     let text = report_line crowds (done + 1) (state_at number (done + 1)) in
     let line : c.as_bytes.result.now ≡ text = c.as_bytes.ensures ∙ c.report_line-line.ensures ∙ ap (report_line crowds (done + 1)) state in
+    let all : so_far ++ c.as_bytes.result.now ≡ generated number crowds (done + 1) = ap (λ bytes. so_far ++ bytes) line ∙ sym (generated_next number crowds done) in
     record {
       state = state;
       under = subst (λ text. IsUnderway before c.args.name.now text c.put.new.self (g.K.Cabinet.told c.put.new.cabinet))
-          (ap (λ bytes. so_far ++ bytes) line ∙ sym (generated_next number crowds done)) (c.in_ok-put.ensures.added before so_far i.under);
+          all (c.in_ok-put.ensures.added before so_far i.under);
       kept = (c.in_ok-put.ensures.cause before so_far i.under).kept ∙ i.kept;
     }
