@@ -81,7 +81,7 @@ fn add_pair(line: &mut Line, first: &str, second: &str)
 }
 
 // Adds a word and a number.
-fn add_numbered(line: &mut Line, word: &str, number: u64)
+pub fn add_numbered(line: &mut Line, word: &str, number: u64)
     requires line { length line.old ≤ 80 }
     requires word { length word.now ≤ 20 }
     ensures text { line.new ≡ line.old ++ numbered word.now number }
