@@ -2,7 +2,10 @@
 #![tactic(auto)]
 
 mod analyse;
+mod batch;
 mod call;
+mod encode;
+mod generate;
 mod line;
 mod plain;
 mod printing;
@@ -15,6 +18,7 @@ mod stored;
 mod taking;
 mod telling;
 mod words;
+mod writing;
 
 pub use plain::esa_plain;
 pub use refusal::Refusal;
