@@ -10,3 +10,5 @@ pub mod Tops
 pub mod Counts
 pub mod Upgrades
 pub mod Submissions
+pub mod Foretelling
+pub mod Forecasts

@@ -15,7 +15,7 @@ reads_none : {A E : Type 0} (why : E → Refusal) (read : Result A E) (other : S
 reads_none why (Ok value) other is = cc
 reads_none why (Err error) other is = cc
 
-read_pure : {A E : Type 0} (why : E → Refusal) (read : List ℕ → Result A E) → ReadsNothing (λ bytes. read_step why (read bytes))
+pub read_pure : {A E : Type 0} (why : E → Refusal) (read : List ℕ → Result A E) → ReadsNothing (λ bytes. read_step why (read bytes))
 read_pure why read = record { nothing = λ bytes other is. reads_none why (read bytes) other is }
 
 pub job_miss : (command : Command) (crew_allowed : Bool) (name : List ℕ) → MissesOnly source.Job (job_file command crew_allowed name)

@@ -7,6 +7,8 @@ pub mod Encode
 pub mod Encoding
 pub mod Ends
 pub mod Explains
+pub mod Forecast
+pub mod Foreseen
 pub mod Gathered
 pub mod Generate
 pub mod Judged

@@ -6,6 +6,7 @@ use Rattle.esa_job.specs.declared.command.Command.TheVariants as command
 use Rattle.esa_cli.specs.Analyse.{analyse_steps}
 use Rattle.esa_cli.specs.Batching.{batch_steps}
 use Rattle.esa_cli.specs.Encode.{encode_steps}
+use Rattle.esa_cli.specs.Forecast.{plan_steps}
 use Rattle.esa_cli.specs.Generate.{generate_steps}
 use Rattle.esa_cli.specs.Stored.{histogram_steps, upgrade_steps}
 use Rattle.esa_cli.specs.declared.refusal.Refusal.TheVariants.{NotBuilt}
@@ -26,6 +27,7 @@ is_built command.Batch = true
 is_built command.Analyse = true
 is_built command.Histogram = true
 is_built command.Upgrade = true
+is_built command.Plan = true
 is_built _ = false
 
 -- the steps of a command over the job file of this name; a command that isn't built yet is refused
@@ -36,6 +38,7 @@ steps_of (command.Batch, name) = batch_steps name
 steps_of (command.Analyse, name) = analyse_steps name
 steps_of (command.Histogram, name) = histogram_steps name
 steps_of (command.Upgrade, name) = upgrade_steps name
+steps_of (command.Plan, name) = plan_steps name
 steps_of (command, name) = λ read. refused (NotBuilt command)
 
 -- By the files that were told: the status is Usage where the words ask for nothing, and nothing is changed then.

@@ -6,6 +6,8 @@ use Rattle.esa_line.specs.declared.refused.LineCause.TheVariants as cause
 use Rattle.esa_line.specs.declared.refused.LineRefused.{LineRefused}
 use Rattle.esa_batcher.specs.declared.refused.BatchRefused.{BatchRefused}
 use Rattle.esa_batcher.specs.declared.refused.BatchRefused.TheVariants as batch
+use Rattle.esa_coins.specs.declared.refused.CoinsRefused.{CoinsRefused}
+use Rattle.esa_coins.specs.declared.refused.CoinsRefused.TheVariants as coins
 use Rattle.esa_threshold.specs.declared.refused.ForwardRefused.{ForwardRefused}
 use Rattle.esa_threshold.specs.declared.refused.ForwardRefused.TheVariants as forward
 use Rattle.esa_analyser.specs.declared.refused.DbRefused.{DbRefused}
@@ -22,6 +24,14 @@ numbered word number = word ++ decimal number
 -- a file that ends too early
 abbrev pub cut_text : Cut → List ℕ
 cut_text cut = numbered (codes "cut want ") cut.want ++ numbered (codes " have ") cut.have
+
+-- what is wrong with coins
+abbrev pub coins_text : CoinsRefused → List ℕ
+coins_text coins.Shape = codes "shape"
+coins_text (coins.Targets attempt) = numbered (codes "targets ") attempt
+coins_text (coins.Target attempt place) = numbered (codes "target ") attempt ++ numbered (codes " ") place
+coins_text (coins.Order attempt bucket) = numbered (codes "order ") attempt ++ numbered (codes " ") bucket
+coins_text coins.OutOfMemory = codes "out-of-memory"
 
 -- what is wrong with a batch
 abbrev pub batch_text : BatchRefused → List ℕ
@@ -76,6 +86,7 @@ refusal_text (refusal.Params field) = codes "params " ++ param_word field
 refusal_text (refusal.Keys field) = codes "keys " ++ key_word field
 refusal_text (refusal.Drops line) = numbered (codes "drops ") line
 refusal_text (refusal.Turns line) = numbered (codes "turns ") line
+refusal_text (refusal.Coins refused) = codes "coins " ++ coins_text refused
 refusal_text (refusal.Batch refused) = codes "batch " ++ batch_text refused
 refusal_text (refusal.Line refused) = line_text refused
 refusal_text (refusal.Lines n) = numbered (codes "lines ") n
@@ -85,6 +96,7 @@ refusal_text (refusal.NotBuilt command) = codes "not-built " ++ command_word com
 
 -- What is refused is wrong with what was given: no refusal says that memory is wanted, which is a status of its own.
 abbrev pub IsOfInput : Refusal → Type 0
+IsOfInput (refusal.Coins coins.OutOfMemory) = ⊥
 IsOfInput (refusal.Batch batch.OutOfMemory) = ⊥
 IsOfInput (refusal.Forward forward.OutOfMemory) = ⊥
 IsOfInput (refusal.Database database.OutOfMemory) = ⊥

@@ -2,9 +2,11 @@
 #![tactic(auto)]
 
 mod analyse;
+mod asked;
 mod batch;
 mod call;
 mod encode;
+mod forecast;
 mod generate;
 mod line;
 mod plain;

@@ -12,6 +12,7 @@ use crate::analyse::analyse;
 use crate::batch::batch;
 use crate::call::{Call, call_of};
 use crate::encode::encode;
+use crate::forecast::plan;
 use crate::generate::generate;
 use crate::refusal::Refusal;
 use crate::status::Status;
@@ -40,6 +41,7 @@ fn run<K: Cabinet, P: Printer>(
         Command::Analyse => analyse(alloc, cabinet, printer, call.job),
         Command::Histogram => histogram(alloc, cabinet, printer, call.job),
         Command::Upgrade => upgrade(alloc, cabinet, printer, call.job),
+        Command::Plan => plan(alloc, cabinet, printer, call.job),
         command => Err(Stop::Refused(Refusal::NotBuilt(command))),
     }
 }

@@ -1,13 +1,14 @@
 //! Why a command was refused, and the text that says so.
 
 ghost use Rattle.std.specs.Prelude.{◌≡◌, ◌+◌, ◌≤◌, ◌++◌, length, codes};
-ghost use Rattle.esa_cli.specs.Refusal.{refusal_text, batch_text, cause_word, line_text, forward_text, database_text, cut_text, numbered};
+ghost use Rattle.esa_cli.specs.Refusal.{refusal_text, coins_text, batch_text, cause_word, line_text, forward_text, database_text, cut_text, numbered};
 
 use crate::line::Line;
 use crate::words::{word_of_param, word_of_role};
 use esa_analyser::DbRefused;
 use esa_batcher::BatchRefused;
 use esa_bytes::Cut;
+use esa_coins::CoinsRefused;
 use esa_job::{Command, JobField, KeyField};
 use esa_line::{LineCause, LineRefused};
 use esa_outside::Role;
@@ -31,6 +32,8 @@ pub enum Refusal {
     Drops(u64),
     /// A line of the turns file, counted from 1.
     Turns(u64),
+    /// The coins file isn't one for the job.
+    Coins(CoinsRefused),
     /// The batch file breaks its format, or there are too few records.
     Batch(BatchRefused),
     /// A line of reports or submissions.
@@ -60,6 +63,7 @@ pub fn add_refusal(line: &mut Line, refusal: &Refusal)
         Refusal::Keys(field) => add_pair(line, "keys ", field.word()),
         Refusal::Drops(number) => add_numbered(line, "drops ", *number),
         Refusal::Turns(number) => add_numbered(line, "turns ", *number),
+        Refusal::Coins(refused) => add_coins(line, refused),
         Refusal::Batch(refused) => add_batch(line, refused),
         Refusal::Line(refused) => add_line(line, refused),
         Refusal::Lines { n } => add_numbered(line, "lines ", *n),
@@ -135,6 +139,21 @@ fn add_database(line: &mut Line, refused: &DbRefused)
     }
 }
 
+// Adds what is wrong with coins.
+fn add_coins(line: &mut Line, refused: &CoinsRefused)
+    requires { length line.old ≤ 20 }
+    ensures { line.new ≡ line.old ++ (codes "coins " ++ coins_text refused.now) }
+{
+    line.word("coins ");
+    match refused {
+        CoinsRefused::Shape => line.word("shape"),
+        CoinsRefused::Targets(attempt) => add_numbered(line, "targets ", u64::from(*attempt)),
+        CoinsRefused::Target { attempt, place } => add_two(line, "target ", *attempt, *place),
+        CoinsRefused::Order { attempt, bucket } => add_two(line, "order ", *attempt, *bucket),
+        CoinsRefused::OutOfMemory => line.word("out-of-memory"),
+    }
+}
+
 // Adds what is wrong with a batch.
 fn add_batch(line: &mut Line, refused: &BatchRefused)
     requires { length line.old ≤ 20 }
@@ -148,19 +167,20 @@ fn add_batch(line: &mut Line, refused: &BatchRefused)
         BatchRefused::Cut(cut) => add_cut(line, cut),
         BatchRefused::Trailing => line.word("trailing"),
         BatchRefused::Unsorted(place) => add_numbered(line, "unsorted ", u64::from(*place)),
-        BatchRefused::TooFew { n, m } => add_too_few(line, *n, *m),
+        BatchRefused::TooFew { n, m } => add_two(line, "too-few ", *n, *m),
         BatchRefused::TooMany { n } => add_numbered(line, "too-many ", u64::from(*n)),
         BatchRefused::OutOfMemory => line.word("out-of-memory"),
     }
 }
 
-// Adds how many records there are, and how many were wanted.
-fn add_too_few(line: &mut Line, n: u32, m: u32)
-    requires { length line.old ≤ 40 }
-    ensures { line.new ≡ line.old ++ (numbered (codes "too-few ") n ++ numbered (codes " ") m) }
+// Adds a word and two numbers.
+fn add_two(line: &mut Line, word: &str, first: u32, second: u32)
+    requires line { length line.old ≤ 40 }
+    requires word { length word.now ≤ 20 }
+    ensures { line.new ≡ line.old ++ (numbered word.now first ++ numbered (codes " ") second) }
 {
-    add_numbered(line, "too-few ", u64::from(n));
-    add_numbered(line, " ", u64::from(m));
+    add_numbered(line, word, u64::from(first));
+    add_numbered(line, " ", u64::from(second));
 }
 
 // The word of a cause.

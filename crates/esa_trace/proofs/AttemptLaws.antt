@@ -94,8 +94,8 @@ scans_before p ds a m (h ∷ hs) few =
 pub trace_before : (p : Sizes) (ds : ℕ → Draw) (m : ℕ) (hs : List (List ℕ)) → length hs ≤ m → 1 ≤ m → AreBefore m (trace p ds hs)
 trace_before p ds m hs few some =
     joined_before m (shuffle_trace p ds hs) (scans p (good_attempt p ds 0 hs))
-    (joined_before m (load p) (attempts p ds 0 hs) (each_before m (written_input p) (below p.b) (λ _. some)) (attempts_before p ds 0 m hs few))
-    (scans_before p ds 0 m hs few)
+    (joined_before m (load p) (attempts p ds 0 hs) (each_before m (written_input p) (below p.b) (λ _. some)) (attempts_before p ds 0 m hs (omega (arith, few))))
+    (scans_before p ds 0 m hs (omega (arith, few)))
 
 pub attempts_fit : (p : Sizes) (ds : ℕ → Draw) (hs : List (List ℕ)) → ArePlanned p → length hs ≤ p.attempts → All (λ access. access.attempt < 256) (trace p ds hs)
 attempts_fit p ds hs planned few = trace_before p ds 256 hs (omega (arith, planned.parameters.attempts_greatest)) (omega arith)
