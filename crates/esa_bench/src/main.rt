@@ -8,12 +8,14 @@
 
 mod bare;
 mod coins;
+mod encode;
 mod forward;
 mod stash;
 mod turnstile;
 
 use anyhow::{Context, Result, bail};
 use coins::{Drawn, Reading};
+use encode::Call;
 use esa_coins::Draw;
 use forward::Values;
 use stash::Then;
@@ -28,6 +30,7 @@ fn main(rt: HostRuntime) -> Result<()> {
         bare::small(&rt)?;
         coins::small(&rt)?;
         stash::fill(&rt, 4_000, Then::Exchanges(2))?;
+        encode::small(&rt, rt.alloc())?;
         return turnstile::small(&rt, rt.alloc());
     };
     let size = number(words.next())?;
@@ -56,6 +59,8 @@ fn run<R: Print + Files + AllocGlobal>(rt: &R, module: &str, size: u64) -> Resul
     match module {
         "hash" => bare::hash(rt, size),
         "keystream" => bare::keystream(rt, size),
+        "digits-slice" => encode::digits(rt, rt.alloc(), Call::Slice, size),
+        "digits-text" => encode::digits(rt, rt.alloc(), Call::Text, size),
         "forward-seven" => forward::write(rt, Values::Seven, size),
         "forward-distinct" => forward::write(rt, Values::Distinct, size),
         "coins-single" => coins::draw(rt, Drawn::Coins, Draw::Single, size),
