@@ -12,11 +12,13 @@ mod encode;
 mod forward;
 mod stash;
 mod turnstile;
+mod vault;
 
 use anyhow::{Context, Result, bail};
 use coins::{Drawn, Reading};
 use encode::Call;
 use esa_coins::Draw;
+use esa_params::Form;
 use forward::Values;
 use stash::Then;
 use std::env;
@@ -31,6 +33,7 @@ fn main(rt: HostRuntime) -> Result<()> {
         coins::small(&rt)?;
         stash::fill(&rt, 4_000, Then::Exchanges(2))?;
         encode::small(&rt, rt.alloc())?;
+        vault::small(&rt)?;
         return turnstile::small(&rt, rt.alloc());
     };
     let size = number(words.next())?;
@@ -43,7 +46,33 @@ fn main(rt: HostRuntime) -> Result<()> {
         };
         return turnstile::measure(&rt, rt.alloc(), &load);
     }
+    if let Some(form) = form_of(module.as_str()) {
+        let load = vault::Load {
+            form,
+            items: small(size)?,
+            real: small(number(words.next())?)?,
+            times: small(number(words.next())?)?,
+        };
+        return vault::measure(&rt, &load);
+    }
     run(&rt, module.as_str(), size)
+}
+
+/// A number of 32 bits.
+fn small(number: u64) -> Result<u32> {
+    match u32::try_from(number) {
+        Ok(small) => Ok(small),
+        Err(_) => bail!("too large a number"),
+    }
+}
+
+/// The form of the blocks that a word asks for.
+fn form_of(module: &str) -> Option<Form> {
+    match module {
+        "vault-one" => Some(Form::One),
+        "vault-two" => Some(Form::Two),
+        _ => None,
+    }
 }
 
 /// The number that a word of the command line is, or 0 where there is no more word.

@@ -9,3 +9,4 @@ pub mod Reports
 pub mod Tops
 pub mod Counts
 pub mod Upgrades
+pub mod Submissions

@@ -1,11 +1,12 @@
 //! Why a command was refused, and the text that says so.
 
 ghost use Rattle.std.specs.Prelude.{◌≡◌, ◌+◌, ◌≤◌, ◌++◌, length, codes};
-ghost use Rattle.esa_cli.specs.Refusal.{refusal_text, cause_word, line_text, forward_text, database_text, cut_text, numbered};
+ghost use Rattle.esa_cli.specs.Refusal.{refusal_text, batch_text, cause_word, line_text, forward_text, database_text, cut_text, numbered};
 
 use crate::line::Line;
 use crate::words::{word_of_param, word_of_role};
 use esa_analyser::DbRefused;
+use esa_batcher::BatchRefused;
 use esa_bytes::Cut;
 use esa_job::{Command, JobField, KeyField};
 use esa_line::{LineCause, LineRefused};
@@ -30,6 +31,8 @@ pub enum Refusal {
     Drops(u64),
     /// A line of the turns file, counted from 1.
     Turns(u64),
+    /// The batch file breaks its format, or there are too few records.
+    Batch(BatchRefused),
     /// A line of reports or submissions.
     Line(LineRefused),
     /// More lines than can be encoded or batched.
@@ -57,6 +60,7 @@ pub fn add_refusal(line: &mut Line, refusal: &Refusal)
         Refusal::Keys(field) => add_pair(line, "keys ", field.word()),
         Refusal::Drops(number) => add_numbered(line, "drops ", *number),
         Refusal::Turns(number) => add_numbered(line, "turns ", *number),
+        Refusal::Batch(refused) => add_batch(line, refused),
         Refusal::Line(refused) => add_line(line, refused),
         Refusal::Lines { n } => add_numbered(line, "lines ", *n),
         Refusal::Forward(refused) => add_forward(line, refused),
@@ -129,6 +133,34 @@ fn add_database(line: &mut Line, refused: &DbRefused)
         DbRefused::Trailing => line.word("trailing"),
         DbRefused::OutOfMemory => line.word("out-of-memory"),
     }
+}
+
+// Adds what is wrong with a batch.
+fn add_batch(line: &mut Line, refused: &BatchRefused)
+    requires { length line.old ≤ 20 }
+    ensures { line.new ≡ line.old ++ (codes "batch " ++ batch_text refused.now) }
+{
+    line.word("batch ");
+    match refused {
+        BatchRefused::BadMagic => line.word("bad-magic"),
+        BatchRefused::BadVersion => line.word("bad-version"),
+        BatchRefused::BadSize => line.word("bad-size"),
+        BatchRefused::Cut(cut) => add_cut(line, cut),
+        BatchRefused::Trailing => line.word("trailing"),
+        BatchRefused::Unsorted(place) => add_numbered(line, "unsorted ", u64::from(*place)),
+        BatchRefused::TooFew { n, m } => add_too_few(line, *n, *m),
+        BatchRefused::TooMany { n } => add_numbered(line, "too-many ", u64::from(*n)),
+        BatchRefused::OutOfMemory => line.word("out-of-memory"),
+    }
+}
+
+// Adds how many records there are, and how many were wanted.
+fn add_too_few(line: &mut Line, n: u32, m: u32)
+    requires { length line.old ≤ 40 }
+    ensures { line.new ≡ line.old ++ (numbered (codes "too-few ") n ++ numbered (codes " ") m) }
+{
+    add_numbered(line, "too-few ", u64::from(n));
+    add_numbered(line, " ", u64::from(m));
 }
 
 // The word of a cause.

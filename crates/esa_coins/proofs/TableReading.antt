@@ -1,5 +1,5 @@
 -- What is read from a coins file is such as attempts need.
-use Rattle.std.proofs.Common.{◌≡◌, ℕ, ◌==◌, ◌&&◌, Bool, true, false, nat_lt, codes, is_some, ◌<◌, List, [], map, get_or, length, Option, Some, None, Result, Ok, Err, refl, ap, sym, ◌∙◌, subst}
+use Rattle.std.proofs.Common.{◌≡◌, ℕ, ◌==◌, Bool, true, false, nat_lt, codes, is_some, ◌<◌, List, [], map, get_or, length, Option, Some, Result, Ok, Err, refl, ap, sym, ◌∙◌, subst}
 use Rattle.std.specs.Cmp.Derive.{both_true}
 use Rattle.std.specs.List.{list_all}
 use Rattle.std.specs.Option.{ok_or}
@@ -9,11 +9,10 @@ use Rattle.std.proofs.lemmas.List.FromFn.{length-range_with_len}
 use Rattle.std.proofs.lemmas.List.Sorted.{length_permutation}
 use Rattle.serde_json.specs.Data.{Data}
 use Rattle.serde_json.specs.Find.{get, as_object}
-use Rattle.esa_json.specs.Object.{object_of}
 use Rattle.esa_params.specs.Sizes.{Sizes, below}
 use Rattle.esa_job.specs.Values.{number_in}
 use Rattle.esa_coins.specs.Order.{is_order}
-use Rattle.esa_coins.specs.Table.{Table, and_then, only_if, each, values_in, list_in, numbers_in, targets_in, import_places, order_in, orders_in, table_in, attempts_in, tables_in, is_table, are_tables}
+use Rattle.esa_coins.specs.Table.{Table, and_then, only_if, each, values_in, list_in, numbers_in, targets_in, import_places, order_in, orders_in, table_in, attempts_in, is_table, are_tables}
 use Rattle.esa_coins.specs.TableLaws.{IsTable, table_at, order_permuted}
 use Rattle.esa_coins.specs.declared.refused.CoinsRefused.{CoinsRefused}
 use Rattle.esa_coins.specs.declared.refused.CoinsRefused.TheVariants.{Shape, Targets, Target, Order}

@@ -24,7 +24,7 @@ pub struct TableCoins {
 impl TableCoins {
     ghost use Rattle.std.specs.Prelude.{IfOk};
     ghost use Rattle.esa_coins.specs.Table.{Gives, tables_in};
-    ghost use Rattle.esa_coins.specs.TableCoins.{tables_of};
+    ghost use Rattle.esa_coins.specs.TableCoins.{plan_of, tables_of};
 
     /// Reads the coins of a plan from the bytes of a coins file.
     ///
@@ -34,7 +34,7 @@ impl TableCoins {
     /// shape, and then, attempt by attempt, that the targets are N whole numbers, each of them, and each order.
     pub fn read(alloc: Global, bytes: &[u8], plan: Plan) -> Result<TableCoins, CoinsRefused>
         ensures first_refusal { Gives tables_of (tables_in plan bytes.now) result }
-        ensures plan { IfOk result (λ coins. coins.plan ≡ plan) }
+        ensures plan { IfOk result (λ coins. plan_of coins ≡ plan) }
     {
         let object = match read_object(alloc, bytes) {
             Ok(Some(object)) => object,

@@ -3,4 +3,5 @@ pub mod FilledLemmas
 pub mod GetLaws
 pub mod ItemLemmas
 pub mod LatestLaws
+pub mod StoredLaws
 pub mod TextLaws

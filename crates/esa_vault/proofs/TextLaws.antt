@@ -1,13 +1,15 @@
 -- The text of items: its length, the bytes of each item, and how it fills a block.
-use Rattle.std.proofs.Common.{◌≡◌, ◌≢◌, ℕ, zero, suc, ◌+◌, ◌-◌, ◌*◌, ◌/◌, ◌<◌, ◌≤◌, Bool, true, List, [], ◌∷◌, ◌++◌, length, take, drop, get_or, Some, refl, sym, ap, ◌∙◌, arith, add-one, length-append, subst, inl, inr}
+use Rattle.std.proofs.Common.{◌≡◌, ◌≢◌, ℕ, zero, suc, ◌+◌, ◌-◌, ◌*◌, ◌/◌, ◌<◌, ◌≤◌, Bool, true, List, [], ◌∷◌, ◌++◌, length, take, drop, get_or, Some, refl, sym, ap, ◌∙◌, arith, add-one, append-nil, append_assoc, length-append, subst, inl, inr}
 use Rattle.std.specs.Prelude.{All, replicate, slice_get}
 use Rattle.std.specs.List.{list_all}
 use Rattle.std.specs.Option.{option_map}
-use Rattle.std.proofs.Math.Nat.{mul-div_cancel}
+use Rattle.std.proofs.Math.Nat.{mul-div_cancel, mul-le-mul_right}
 use Rattle.std.proofs.lemmas.Bool.{cases_lt}
 use Rattle.std.proofs.lemmas.Bool.Decides.{nat_tests}
-use Rattle.std.proofs.lemmas.List.{drop-drop, drop_at, length-replicate, length-take-le, take_at}
+use Rattle.std.proofs.lemmas.List.{drop-drop, drop_at, length-replicate, length-take-le, take_all, take_at, take_more}
 use Rattle.std.proofs.lemmas.List.Elements.{All-append, All-replicate}
+use Rattle.std.proofs.lemmas.Slice.{take-put_mid}
+use borrow.Rule.Slice.PartMut.{put_mid}
 use Rattle.esa_params.specs.Sizes.{below}
 use Rattle.esa_report.specs.declared.item.Item.{Item}
 use Rattle.esa_report.specs.declared.item.Kind.{Kind}
@@ -151,3 +153,53 @@ pub filled-suits : (size count place : ℕ) (text : List ℕ) → is_filled size
     → suits count place (kind_held (bytes_at size text place)) ≡ true
 filled-suits size count place text filled inside =
     passed (λ place. suits count place (kind_held (bytes_at size text place))) (length text / size) place inside filled
+
+-- items are written one after another
+text_of-append : (size : ℕ) (items more : List Item) → text_of size (items ++ more) ≡ text_of size items ++ text_of size more
+text_of-append size [] more = refl
+text_of-append size (item ∷ items) more =
+    ap (λ rest. item_bytes size item ++ rest) (text_of-append size items more)
+    ∙ sym (append_assoc (item_bytes size item) (text_of size items) (text_of size more))
+
+text_of-more : (size place : ℕ) (items : List Item) → place < length items
+    → text_of size (take (place + 1) items) ≡ text_of size (take place items) ++ item_bytes size (get_or items place dummy_item)
+text_of-more size place items inside =
+    ap (text_of size) (take_more items place dummy_item inside)
+    ∙ text_of-append size (take place items) (get_or items place dummy_item ∷ [])
+    ∙ ap (λ last. text_of size (take place items) ++ last) (append-nil (item_bytes size (get_or items place dummy_item)))
+
+-- a place lies before the end
+pub place-inside : (size place n : ℕ) → place < n → place * size + size ≤ n * size
+place-inside size place n inside =
+    let more : (place + 1) * size ≤ n * size = mul-le-mul_right size (omega arith) in omega arith
+
+-- one item more was written behind those before it
+pub written-more : (size place : ℕ) (items : List Item) (text part : List ℕ) → IsItemLength size → All (IsSpelled size) items → place < length items
+    → length text ≡ length items * size → take (place * size) text ≡ text_of size (take place items)
+    → part ≡ item_bytes size (get_or items place dummy_item)
+    → take ((place + 1) * size) (put_mid (place * size) (place * size + size - place * size) text part) ≡ text_of size (take (place + 1) items)
+written-more size place items text part either all inside whole before here =
+    let room = place-inside size place (length items) inside in
+    let one : length part ≡ size = ap length here ∙ length-item_bytes size (get_or items place dummy_item) either (all place dummy_item inside) in
+    let next : (place + 1) * size ≡ place * size + length part = omega arith in
+    take-put_mid (place * size) (place * size + size - place * size) text part ((place + 1) * size) next (omega arith)
+    ∙ ap (λ front. front ++ part) before ∙ ap (λ last. text_of size (take place items) ++ last) here
+    ∙ sym (text_of-more size place items inside)
+
+-- all items were written
+pub all-written : (size place : ℕ) (items : List Item) (text : List ℕ) → length items ≤ place → length text ≡ length items * size
+    → take (place * size) text ≡ text_of size (take place items) → text ≡ text_of size items
+all-written size place items text end whole written =
+    let room : length text ≤ place * size = let all : length items * size ≤ place * size = mul-le-mul_right size end in omega arith in
+    sym (take_all (place * size) text room) ∙ written ∙ ap (text_of size) (take_all place items end)
+
+same-item : (items : List Item) (place : ℕ) (d e : Item) → place < length items → get_or items place d ≡ get_or items place e
+same-item [] place d e inside = absurd (omega arith)
+same-item (item ∷ items) zero d e inside = refl
+same-item (item ∷ items) (suc place) d e inside = same-item items place d e (omega arith)
+
+-- the bytes of the item at a place were written
+pub written-here : (size n place : ℕ) (items : List Item) (d : Item) (part : List ℕ) → n ≡ size → place < length items
+    → part ≡ item_bytes n (get_or items place d) → part ≡ item_bytes size (get_or items place dummy_item)
+written-here size n place items d part same inside is =
+    is ∙ ap (λ m. item_bytes m (get_or items place d)) same ∙ ap (item_bytes size) (same-item items place d dummy_item inside)

@@ -35,3 +35,12 @@ HoldsLatest p keys text held accesses number =
 -- so it is with each slot of the plan
 abbrev pub AllHoldLatest : Sizes → Keys → (Access → List ℕ) → List (List ℕ) → List Access → Type 0
 AllHoldLatest p keys text held accesses = (number : ℕ) → number < slots_of p → HoldsLatest p keys text held accesses number
+
+-- the same of the slot of this number, where the blocks are told
+abbrev pub ToldLatest : Sizes → Keys → (Access → List ℕ) → Option (List (List ℕ)) → List Access → ℕ → Type 0
+ToldLatest p keys text told accesses number =
+    (blocks : List (List ℕ)) → told ≡ Some blocks → HoldsLatest p keys text blocks accesses number
+
+-- and of each slot of the plan
+abbrev pub AllToldLatest : Sizes → Keys → (Access → List ℕ) → Option (List (List ℕ)) → List Access → Type 0
+AllToldLatest p keys text told accesses = (number : ℕ) → number < slots_of p → ToldLatest p keys text told accesses number

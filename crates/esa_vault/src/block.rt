@@ -1,13 +1,13 @@
 //! Sealing a block for its slot, and opening it.
 
 ghost use Rattle.std.specs.Prelude.{◌≡◌, ◌+◌, length, unwrap_or};
-ghost use Rattle.esa_params.specs.Slots.{IsPlanned, block_length, item_length, nonce_of, plain_length};
+ghost use Rattle.esa_params.specs.Slots.{IsPlanned, block_length, nonce_of, plain_length};
 ghost use Rattle.esa_params.specs.Sizes.{ArePlanned};
 ghost use Rattle.esa_envelope.specs.Envelope.{nonce_in};
-ghost use Rattle.esa_report.specs.Item.{IsItemLength};
 ghost use Rattle.esa_vault.specs.Seals.{opens, sealed_block, text_in};
 
 use crate::filled::is_filled;
+use crate::text::item_length;
 use esa_envelope::{Keys, Label, Prepared, nonce_of, prepare, seal_with, unseal_with};
 use esa_params::{Plan, Region, Slot};
 
@@ -61,7 +61,7 @@ pub(crate) fn open_block(
     ensures limits { ArePlanned plan.now }
     ensures plain { plain.new ≡ unwrap_or (text_in plan.now keys.now slot attempt sealed.now) plain.old }
 {
-    let item = item_length(plan);
+    let item = item_length(plan.form());
     let nonce = plan.nonce(attempt, slot);
     if nonce_of(sealed) != nonce {
         return false;
@@ -75,13 +75,4 @@ pub(crate) fn open_block(
         Region::Tail => is_filled(item, count, plain),
         Region::Output => is_filled(item, count, plain),
     }
-}
-
-/// The length of an item of the plan's form, in bytes.
-fn item_length(plan: &Plan) -> usize
-    ensures value { result ≡ item_length plan.now.form }
-    ensures length { IsItemLength result }
-    ensures limits { ArePlanned plan.now }
-{
-    plan.form().body() as usize + 1
 }

@@ -2,12 +2,12 @@
 //!
 //! The functions do nothing when they run. They are there so that each law is proved where a contract names it.
 
-ghost use Rattle.std.specs.Prelude.{◌≡◌, ◌≢◌, ℕ, ◌+◌, ◌*◌, ◌/◌, ◌^◌, ◌<◌, true, false, Some, None, All, List, [], ◌∷◌, ◌++◌, length, replicate, slice_get, slice_set, if◌then◌else◌};
+ghost use Rattle.std.specs.Prelude.{◌≡◌, ◌≢◌, ℕ, ◌+◌, ◌*◌, ◌/◌, ◌^◌, ◌<◌, true, false, Some, Option, Result, OnOk, All, List, [], ◌∷◌, ◌++◌, length, replicate, slice_get, slice_set, if◌then◌else◌};
 ghost use Rattle.esa_envelope.specs.Envelope.{nonce_in, sealed_as};
 ghost use Rattle.esa_envelope.specs.declared.keys.Keys.{Keys};
 ghost use Rattle.esa_envelope.specs.declared.label.Label.{Label};
 ghost use Rattle.esa_params.specs.Sizes.{Sizes, ArePlanned};
-ghost use Rattle.esa_params.specs.Slots.{IsPlanned, nonce_of};
+ghost use Rattle.esa_params.specs.Slots.{IsPlanned, access_of, nonce_of, number_of, slots_of};
 ghost use Rattle.esa_params.specs.declared.slot.Access.{Access};
 ghost use Rattle.esa_params.specs.declared.slot.Op.{Op};
 ghost use Rattle.esa_params.specs.declared.slot.Region.{Region};
@@ -16,7 +16,9 @@ ghost use Rattle.esa_report.specs.declared.item.Item.{Item};
 ghost use Rattle.esa_report.specs.Item.{IsItemLength, dummy_item, item_in, kind_held};
 ghost use Rattle.esa_vault.specs.Seals.{is_text_of, opens, sealed_block, text_in};
 ghost use Rattle.esa_vault.specs.Filled.{bytes_at, is_filled, suits, text_of};
-ghost use Rattle.esa_vault.specs.Latest.{AllHoldLatest, HoldsLatest, latest_write, slot_number, writes_to};
+ghost use Rattle.esa_vault.specs.Latest.{AllHoldLatest, AllToldLatest, HoldsLatest, ToldLatest, latest_write, slot_number, writes_to};
+ghost use Rattle.esa_vault.specs.Traffic.{Stores};
+ghost use Rattle.esa_vault.specs.declared.fault.VaultFault.{VaultFault};
 ghost use Rattle.esa_vault.specs.Placed.{IsHeld, IsSpelled};
 
 /// The block that was sealed for a slot in an attempt opens for them to what was sealed, and for a count exactly
@@ -87,4 +89,24 @@ pub fn one_write_more()
     ensures others { (p : Sizes) (keys : Keys) (text : Access → List ℕ) (held : List (List ℕ)) (accesses : List Access) (access : Access) (number : ℕ) (bytes : List ℕ)
         → number ≢ slot_number p access → HoldsLatest p keys text held accesses number
         → HoldsLatest p keys text (slice_set held (slot_number p access) bytes) (accesses ++ access ∷ []) number }
+{}
+
+/// Where the blocks are told, a block that was put stands in its slot, and the other slots are as they were, also where
+/// the put failed.
+pub fn one_put_more()
+    ensures stored { (p : Sizes) (keys : Keys) (text : Access → List ℕ) (old new : Option (List (List ℕ))) (slot : Slot) (attempt : ℕ) (accesses : List Access) (result : Result (Unit {0}) VaultFault)
+        → AllToldLatest p keys text old accesses
+        → Stores old new (number_of p slot) (sealed_block p keys slot attempt (text (access_of p attempt Op.Write slot))) result
+        → OnOk result (AllToldLatest p keys text new (accesses ++ access_of p attempt Op.Write slot ∷ [])) }
+    ensures others { (p : Sizes) (keys : Keys) (text : Access → List ℕ) (old new : Option (List (List ℕ))) (slot : Slot) (attempt : ℕ) (accesses : List Access) (bytes : List ℕ) (result : Result (Unit {0}) VaultFault) (number : ℕ)
+        → ToldLatest p keys text old accesses number → Stores old new (number_of p slot) bytes result → number ≢ number_of p slot
+        → ToldLatest p keys text new (accesses ++ access_of p attempt Op.Write slot ∷ []) number }
+{}
+
+/// A slot whose latest write has the nonce of the slot in an attempt holds the block that was sealed for them.
+pub fn latest_block()
+    ensures { (p : Sizes) (keys : Keys) (text : Access → List ℕ) (held : List (List ℕ)) (accesses : List Access) (access : Access) (slot : Slot) (attempt : ℕ)
+        → AllHoldLatest p keys text held accesses → number_of p slot < slots_of p → latest_write p (number_of p slot) accesses ≡ Some access
+        → access.nonce ≡ nonce_of p attempt slot
+        → slice_get held (number_of p slot) ≡ Some (sealed_block p keys slot attempt (text access)) }
 {}

@@ -1,4 +1,4 @@
-use Rattle.esa_analyser.proofs.RunWriting.{OnOk-whole, OnErr-left, silent-still}
+use Rattle.esa_page.proofs.WritingLaws.{OnOk-whole, OnErr-left, silent-still}
 use Rattle.esa_cli.specs.Generate.{generated}
 use Rattle.esa_cli.proofs.generate.write_reports.Goals as goal
 

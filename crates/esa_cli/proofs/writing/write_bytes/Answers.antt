@@ -1,4 +1,4 @@
-use Rattle.esa_analyser.proofs.RunWriting.{OnOk-whole, OnErr-left, silent-still}
+use Rattle.esa_page.proofs.WritingLaws.{OnOk-whole, OnErr-left, silent-still}
 use Rattle.esa_cli.proofs.writing.write_bytes.Goals as goal
 
 pub returns-clause-written : goal.returns-clause-written

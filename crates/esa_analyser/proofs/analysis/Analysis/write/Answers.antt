@@ -5,7 +5,7 @@ use Rattle.esa_analyser.specs.Counted.{Counted}
 use Rattle.esa_analyser.specs.Kept.{keys_of, form_of}
 use Rattle.esa_analyser.specs.Rows.{IsDatabase}
 use Rattle.esa_analyser.proofs.KeptLaws.{IsDatabase-keys}
-use Rattle.esa_analyser.proofs.RunWriting.{OnOk-whole, OnErr-left, silent-still}
+use Rattle.esa_page.proofs.WritingLaws.{OnOk-whole, OnErr-left, silent-still}
 use Rattle.esa_analyser.proofs.KeptWriting.{kept_file}
 use Rattle.esa_analyser.proofs.analysis.Analysis.write.Goals as goal
 
