@@ -1,0 +1,9 @@
+pub mod AttemptLemmas
+pub mod CountLemmas
+pub mod ForetellLemmas
+pub mod LineLemmas
+pub mod SeatLemmas
+pub mod SpreadLemmas
+pub mod StandLemmas
+pub mod StepLemmas
+pub mod TurnLemmas
