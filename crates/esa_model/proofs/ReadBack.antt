@@ -1,6 +1,6 @@
 -- The bytes of a turns file read back as its lists.
-use Rattle.std.proofs.Common.{◌≡◌, ◌≢◌, ℕ, zero, suc, ◌+◌, ◌^◌, ◌<◌, ◌≤◌, ◌⊎◌, Bool, true, false, ◌&&◌, cond, Option, Some, None, Result, Ok, Err, List, [], ◌∷◌, ◌++◌, length, map, refl, sym, ap, ◌∙◌, subst, arith, inl, inr, append-nil, append_assoc, length-append}
-use Rattle.std.specs.Prelude.{All, codes, bytes_eq, nat_lt, sum_by, option_and_then, MatchResult}
+use Rattle.std.proofs.Common.{◌≡◌, ◌≢◌, ℕ, zero, suc, ◌+◌, ◌^◌, ◌<◌, ◌≤◌, ◌⊎◌, Bool, true, false, cond, Some, None, Result, Ok, Err, List, [], ◌∷◌, ◌++◌, length, map, refl, sym, ap, ◌∙◌, arith, inl, inr, append-nil, append_assoc, length-append}
+use Rattle.std.specs.Prelude.{All, codes, bytes_eq, option_and_then, MatchResult}
 use Rattle.std.specs.List.{flat_map}
 use Rattle.std.specs.Fmt.{decimal}
 use Rattle.std.specs.Str.{all_ascii_digits}
@@ -14,12 +14,11 @@ use Rattle.esa_bytes.specs.Lines.{text_lines}
 use Rattle.esa_bytes.proofs.DecimalLemmas.{own, decimal_in-decimal_of}
 use Rattle.esa_bytes.proofs.LineLemmas.{text_lines-line}
 use Rattle.esa_spec.specs.Files.{turn_line, next_line, turns_bytes}
-use Rattle.esa_model.specs.Drafts.{Begun, can_come, lists_of, none_begun, turns_in, with_word}
-use Rattle.esa_model.specs.Turns.{AreWorkers, CanRead, read_from, turns_of, with_line}
+use Rattle.esa_model.specs.Drafts.{Begun, can_come, lists_of, turns_in, with_word}
+use Rattle.esa_model.specs.Turns.{AreWorkers, CanRead, read_from, turns_of}
 use Rattle.esa_model.specs.Words.{turn_of, word_in}
 use Rattle.esa_model.specs.declared.turns.TurnsRefused.{TurnsRefused}
 use Rattle.esa_model.specs.declared.turns.TurnsRefused.TheVariants.{OutOfMemory}
-use Rattle.esa_model.specs.declared.word.Word.{Word}
 use Rattle.esa_model.specs.declared.word.Word.TheVariants.{Turn, Next}
 use Rattle.esa_model.proofs.TurnLemmas.{good_line}
 

@@ -1,8 +1,5 @@
-use Rattle.std.proofs.Common.{◌≡◌, ℕ, ◌^◌, ◌≤◌, ◌⊎◌, List, Result, Ok, Err, sym, ap, ◌∙◌, arith, inl, inr}
-use Rattle.std.specs.Prelude.{MatchResult}
+use Rattle.std.proofs.Common.{ap, ◌∙◌, arith}
 use Rattle.esa_model.specs.Turns.{turns_of}
-use Rattle.esa_model.specs.declared.turns.TurnsRefused.{TurnsRefused}
-use Rattle.esa_model.specs.declared.turns.TurnsRefused.TheVariants.{OutOfMemory}
 use Rattle.esa_model.proofs.ReadBack.{turns-back, read-as}
 use Rattle.esa_model.proofs.turns.Turns.read.Goals as goal
 
