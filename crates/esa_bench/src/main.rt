@@ -8,6 +8,7 @@
 
 mod bare;
 mod coins;
+mod forecast;
 mod forward;
 mod stash;
 mod turnstile;
@@ -31,6 +32,7 @@ fn main(rt: HostRuntime) -> Result<()> {
         coins::small(&rt)?;
         stash::fill(&rt, 4_000, Then::Exchanges(2))?;
         vault::small(&rt)?;
+        forecast::small(&rt, rt.alloc())?;
         return turnstile::small(&rt, rt.alloc());
     };
     let size = number(words.next())?;
@@ -42,6 +44,15 @@ fn main(rt: HostRuntime) -> Result<()> {
             outside: number(words.next())?,
         };
         return turnstile::measure(&rt, rt.alloc(), &load);
+    }
+    if module.as_str() == "forecast" {
+        let load = forecast::Load {
+            shape: size,
+            attempts: number(words.next())?,
+            runs: number(words.next())?,
+            bare: number(words.next())?,
+        };
+        return forecast::measure(&rt, rt.alloc(), &load);
     }
     if let Some(form) = form_of(module.as_str()) {
         let load = vault::Load {
