@@ -8,6 +8,7 @@
 
 mod bare;
 mod coins;
+mod device;
 mod forward;
 mod stash;
 mod turnstile;
@@ -27,6 +28,7 @@ fn main(rt: HostRuntime) -> Result<()> {
     let Some(module) = words.next() else {
         bare::small(&rt)?;
         coins::small(&rt)?;
+        device::write_and_read(&rt)?;
         stash::fill(&rt, 4_000, Then::Exchanges(2))?;
         return turnstile::small(&rt, rt.alloc());
     };
@@ -39,6 +41,9 @@ fn main(rt: HostRuntime) -> Result<()> {
             outside: number(words.next())?,
         };
         return turnstile::measure(&rt, rt.alloc(), &load);
+    }
+    if module.as_str() == "device" {
+        return device::write_and_read(&rt);
     }
     run(&rt, module.as_str(), size)
 }
