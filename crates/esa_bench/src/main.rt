@@ -8,6 +8,7 @@
 
 mod bare;
 mod coins;
+mod device;
 mod forecast;
 mod forward;
 mod stash;
@@ -30,6 +31,7 @@ fn main(rt: HostRuntime) -> Result<()> {
     let Some(module) = words.next() else {
         bare::small(&rt)?;
         coins::small(&rt)?;
+        device::write_and_read(&rt)?;
         stash::fill(&rt, 4_000, Then::Exchanges(2))?;
         vault::small(&rt)?;
         forecast::small(&rt, rt.alloc())?;
@@ -62,6 +64,9 @@ fn main(rt: HostRuntime) -> Result<()> {
             times: small(number(words.next())?)?,
         };
         return vault::measure(&rt, &load);
+    }
+    if module.as_str() == "device" {
+        return device::write_and_read(&rt);
     }
     run(&rt, module.as_str(), size)
 }
