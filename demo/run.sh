@@ -6,8 +6,14 @@ work=$(mktemp -d)
 trap 'rm -rf "$work"' EXIT
 cp "$demo"/*.json "$demo"/forward "$work"
 
-echo "Building esa: the first time every crate below it is proved, which takes a while .."
-(cd "$demo/../crates/esa" && rt run >/dev/null)
+echo "Building esa: the first time every crate below it is proved, which can take half an hour .."
+# rt builds the program and runs it, here on these files by their whole names.
+sed "s|: \"|: \"$work/|g" "$work/analyse.json" >"$work/first.json"
+if ! (cd "$demo/../crates/esa" && rt run -- analyse "$work/first.json") >"$work/build.log" 2>&1; then
+    tail -n 20 "$work/build.log"
+    exit 1
+fi
+rm "$work/database"
 program="$demo/../crates/esa/out/esa"
 esa() { (cd "$work" && "$program" "$@"); }
 

@@ -61,9 +61,9 @@ IsSorted-values size keys are sorted k d low below =
     ∙ ap is_lt order
     ∙ sorted k [] low inside
 
-record RowsOfRuns (size : ℕ) (rows : List (List ℕ × ℕ)) (key_runs : List (List ℕ × ℕ)) : Type 0 where
-  rows_are : rows ≡ map row_of key_runs
-  keys_are : All (λ run. IsSortKey size run.0) key_runs
+pub record RowsOfRuns (size : ℕ) (rows : List (List ℕ × ℕ)) (key_runs : List (List ℕ × ℕ)) : Type 0 where
+  pub rows_are : rows ≡ map row_of key_runs
+  pub keys_are : All (λ run. IsSortKey size run.0) key_runs
 
 one_first : (size : ℕ) (x : List ℕ) (key_runs : List (List ℕ × ℕ)) → IsSortKey size x → All (λ run. IsSortKey size run.0) key_runs → RowsOfRuns size (count_first by_bytes (key_value x) (map row_of key_runs)) (count_first by_bytes x key_runs)
 unfolding count_first
@@ -78,7 +78,8 @@ one_first size x (run ∷ key_runs) is are =
       | false ↦ record { rows_are = refl; keys_are = All-cons Key (x, 1) (run ∷ key_runs) is are }
     ])
 
-runs-values : (size : ℕ) (keys : List (List ℕ)) → All (IsSortKey size) keys → RowsOfRuns size (runs by_bytes (map key_value keys)) (runs by_bytes keys)
+-- the runs of keys, and the rows of their values
+pub runs-values : (size : ℕ) (keys : List (List ℕ)) → All (IsSortKey size) keys → RowsOfRuns size (runs by_bytes (map key_value keys)) (runs by_bytes keys)
 runs-values size [] are = subst (λ empty. RowsOfRuns size (empty) (empty)) (sym (runs-nil by_bytes)) (record { rows_are = refl; keys_are = λ k d below. absurd (omega arith) })
 runs-values size (x ∷ xs) are =
     let rest = runs-values size xs (All-tail (IsSortKey size) x xs are) in

@@ -9,3 +9,4 @@ pub mod Counting
 pub mod RunWriting
 pub mod KeptWriting
 pub mod Printing
+pub mod KeptLaws

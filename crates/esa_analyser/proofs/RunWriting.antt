@@ -32,21 +32,6 @@ pub no_run_bytes : (rest : List (List ℕ)) → length rest ≡ 0 → run_bytes 
 no_run_bytes [] none = ap (λ rows. flat_map row_bytes (map_list row_of rows)) (runs-nil by_bytes)
 no_run_bytes (x ∷ xs) none = absurd (omega arith)
 
--- what is put behind what was done
-pub underway_more : (before : Option Files) (name text done more page : List ℕ) (now : Option Files) → IsUnderway before name ((text ++ done) ++ more) page now → IsUnderway before name (text ++ (done ++ more)) page now
-underway_more before name text done more page now under = subst (λ ys. IsUnderway before name ys page now) (append_assoc text done more) under
-
--- all is done
-pub underway_all : (before : Option Files) (name text done rest whole page : List ℕ) (now : Option Files) → whole ≡ done ++ rest → rest ≡ [] → IsUnderway before name (text ++ done) page now → IsUnderway before name (text ++ whole) page now
-underway_all before name text done rest whole page now parts none under =
-    let all : done ≡ whole = sym (append-nil done) ∙ ap (λ ys. done ++ ys) (sym none) ∙ sym parts in
-    subst (λ ys. IsUnderway before name (text ++ ys) page now) all under
-
--- a front of what was done is a front of the whole
-pub left_whole : (before : Option Files) (name text done rest whole : List ℕ) (now : Option Files) → whole ≡ done ++ rest → IsLeft before name (text ++ done) now → IsLeft before name (text ++ whole) now
-left_whole before name text done rest whole now parts left =
-    subst (λ ys. IsLeft before name ys now) (append_assoc text done rest ∙ ap (λ ys. text ++ ys) (sym parts)) (IsLeft-longer before name (text ++ done) rest now left)
-
 pub all_behind : (P : List ℕ → Type 0) (n : ℕ) (xs ys : List (List ℕ)) → ys ≡ drop n xs → All P xs → All P ys
 all_behind P n xs ys behind each = subst (All P) (sym behind) (λ k d below. subst P (sym (get_or-drop n xs k d)) (each (n + k) d (omega (arith, length-drop n xs))))
 
@@ -60,21 +45,7 @@ row_step whole rows i value n done so_far below value_is n_is =
     ∙ ap (λ m. done ++ (row_bytes (value, m) ++ flat_map row_bytes (drop (i + 1) rows))) (sym n_is)
     ∙ sym (append_assoc done (row_bytes (value, n)) (flat_map row_bytes (drop (i + 1) rows)))
 
-pub underway_none : (before : Option Files) (name text page : List ℕ) (now : Option Files) → IsUnderway before name text page now → IsUnderway before name (text ++ []) page now
-underway_none before name text page now under = subst (λ ys. IsUnderway before name ys page now) (sym (append-nil text)) under
-
 -- the header and the rows are the file
 pub file_parts : (form : Form) (database : Database) (front : List ℕ) (rows unopened : ℕ) (behind : List ℕ) → front ≡ front_bytes form rows unopened → rows ≡ length database.rows → unopened ≡ database.unopened → behind ≡ flat_map row_bytes database.rows → front ++ behind ≡ database_bytes form database
 file_parts form database front rows unopened behind front_is rows_is unopened_is behind_is =
     (λ i. front_is i ++ behind_is i) ∙ (λ i. front_bytes form (rows_is i) (unopened_is i) ++ flat_map row_bytes database.rows)
-
--- in the words of what a cabinet tells
-pub OnOk-whole : {T E : Type 0} (result : Result T E) (before : Option Files) (name text : List ℕ) (now : Option Files) → OnOk result (IsWhole before name text now) → (files : Files) → before ≡ Some files → OnOk result (now ≡ Some (map.insert files name text))
-OnOk-whole result before name text now whole files told = on_ok_weaker result (λ is. subst (λ b. IsWhole b name text now) told is) whole
-
-pub OnErr-left : {T E : Type 0} (result : Result T E) (before : Option Files) (name text : List ℕ) (now : Option Files) → OnErr result (IsLeft before name text now) → (files : Files) → before ≡ Some files → OnErr result ((now ≡ Some files) ⊎ HoldsFront files name text now)
-OnErr-left result before name text now left files told = on_err_weaker result (λ is. subst (λ b. IsLeft b name text now) told is) left
-
-pub silent-still : {T E : Type 0} (result : Result T E) (before : Option Files) (name text : List ℕ) (now : Option Files) → OnOk result (IsWhole before name text now) → OnErr result (IsLeft before name text now) → before ≡ None → now ≡ None
-silent-still (Ok _) before name text now whole left none = subst (λ b. IsWhole b name text now) none whole
-silent-still (Err _) before name text now whole left none = subst (λ b. IsLeft b name text now) none left

@@ -9,7 +9,7 @@ ghost use Rattle.esa_params.specs.Form.{inner_length};
 ghost use Rattle.esa_outside.specs.Files.{Files};
 ghost use Rattle.esa_outside.specs.Cause.{HasCause};
 ghost use Rattle.esa_outside.specs.Told.{HoldsFront};
-ghost use Rattle.esa_analyser.specs.Rows.{database_bytes};
+ghost use Rattle.esa_analyser.specs.Rows.{IsDatabase, database_bytes};
 ghost use Rattle.esa_analyser.specs.Opened.{database_of, gives, count_in};
 
 use crate::kept::{Kept, write_kept};
@@ -107,6 +107,9 @@ impl Analysis {
             → OnErr result ((K.told cabinet.new ≡ Some files) ⊎ HoldsFront files name.now (database_bytes self.now.form self.now.database) (K.told cabinet.new)) }
         ensures silent { K.told cabinet.old ≡ None → K.told cabinet.new ≡ None }
         ensures cause { HasCause (K.faults cabinet.old) (K.faults cabinet.new) ⊥ result }
+
+        // It is a database that a file can hold, so `read_db` accepts what was written.
+        ensures readable { IsDatabase self.now.form self.now.database }
     {
         write_kept(&self.kept, self.rows, self.unopened(), cabinet, name)
     }

@@ -7,13 +7,18 @@
 #![tactic(auto)]
 
 mod bare;
+mod coins;
 mod forward;
+mod stash;
 mod turnstile;
 mod vault;
 
 use anyhow::{Context, Result, bail};
+use coins::{Drawn, Reading};
+use esa_coins::Draw;
 use esa_params::Form;
 use forward::Values;
+use stash::Then;
 use std::env;
 use std::rt::Files;
 use turnstile::Load;
@@ -24,6 +29,8 @@ fn main(rt: HostRuntime) -> Result<()> {
     let Some(module) = words.next() else {
         bare::small(&rt)?;
         vault::small(&rt)?;
+        coins::small(&rt)?;
+        stash::fill(&rt, 4_000, Then::Exchanges(2))?;
         return turnstile::small(&rt, rt.alloc());
     };
     let size = number(words.next())?;
@@ -80,6 +87,15 @@ fn run<R: Print + Files + AllocGlobal>(rt: &R, module: &str, size: u64) -> Resul
         "keystream" => bare::keystream(rt, size),
         "forward-seven" => forward::write(rt, Values::Seven, size),
         "forward-distinct" => forward::write(rt, Values::Distinct, size),
+        "coins-single" => coins::draw(rt, Drawn::Coins, Draw::Single, size),
+        "coins-single-bare" => coins::draw(rt, Drawn::Bare, Draw::Single, size),
+        "coins-separators" => coins::draw(rt, Drawn::Coins, Draw::Separators, size),
+        "coins-separators-bare" => coins::draw(rt, Drawn::Bare, Draw::Separators, size),
+        "coins-value" => coins::read(rt, Reading::Value, size),
+        "coins-copy" => coins::read(rt, Reading::Copy, size),
+        "coins-read" => coins::read(rt, Reading::Coins, size),
+        "stash-filled" => stash::fill(rt, size, Then::Nothing),
+        "stash-exchanged" => stash::fill(rt, size, Then::Exchanges(20)),
         _ => bail!("no such module"),
     }
 }

@@ -13,6 +13,7 @@ use Rattle.esa_cli.specs.declared.stop.Sink.{Sink}
 use Rattle.esa_cli.specs.declared.stop.Sink.TheVariants as sink
 use Rattle.esa_cli.specs.declared.source.Source.{Source}
 use Rattle.esa_cli.specs.declared.source.Source.TheVariants as source
+use Rattle.esa_cli.specs.Refusal.{IsOfInput}
 use Rattle.esa_cli.specs.Source.{role_of}
 use Rattle.esa_cli.specs.Status.{has_line, status_lines}
 use Rattle.esa_cli.specs.Step.{Step, accepted, refused, missing, Reads, reads_of, without}
@@ -70,7 +71,7 @@ Explains steps files before now left (status.Refused refusal) = (steps (reads_of
 Explains steps files before now left (status.OutsideFault role) = IsFault steps files before now left role
 Explains steps files before now left status.OutOfMemory = left ≡ Some files
 
--- ---- by the counts alone, whatever is told
+-- ---- whatever is told
 
 -- the count of the role's side has risen; a file that a cabinet tells may be missing instead
 abbrev pub FaultCounted : Option Files → (before now printer_before printer : ℕ) → Role → Type 0
@@ -81,10 +82,11 @@ FaultCounted told before now printer_before printer role.Printer = (now ≡ befo
 FaultCounted told before now printer_before printer reading = Rose before now ⊎ IsSome told
 
 -- On Ok no count rose. After another status than a fault the cabinet's didn't, and the printer's may have in its line.
+-- What is refused is the input.
 abbrev pub EndCounted : Option Files → (before now printer_before printer : ℕ) → Status → Type 0
 EndCounted told before now printer_before printer status.Ok = (now ≡ before) × (printer ≡ printer_before)
 EndCounted told before now printer_before printer status.Usage = now ≡ before
-EndCounted told before now printer_before printer (status.Refused refusal) = now ≡ before
+EndCounted told before now printer_before printer (status.Refused refusal) = (now ≡ before) × IsOfInput refusal
 EndCounted told before now printer_before printer (status.OutsideFault role) = FaultCounted told before now printer_before printer role
 EndCounted told before now printer_before printer status.OutOfMemory = now ≡ before
 

@@ -1,5 +1,5 @@
 -- What a command line asks for, as the steps of its command.
-use Rattle.std.specs.Prelude.{◌≡◌, ℕ, List, Option, Some, None, ◌⊎◌}
+use Rattle.std.specs.Prelude.{◌≡◌, ℕ, Bool, true, false, List, Option, Some, None, ◌⊎◌}
 use Rattle.esa_lists.specs.Files.{Files}
 use Rattle.esa_job.specs.declared.command.Command.{Command}
 use Rattle.esa_job.specs.declared.command.Command.TheVariants as command
@@ -15,6 +15,13 @@ use Rattle.esa_cli.specs.Status.{status_lines}
 use Rattle.esa_cli.specs.Step.{Step, accepted, refused, Reads, reads_of}
 use Rattle.esa_cli.specs.Work.{Work}
 
+-- the commands that are built
+abbrev pub is_built : Command → Bool
+is_built command.Analyse = true
+is_built command.Histogram = true
+is_built command.Upgrade = true
+is_built _ = false
+
 -- the steps of a command over the job file of this name; a command that isn't built yet is refused
 abbrev pub steps_of : Command × List ℕ → Reads → Step Work
 steps_of (command.Analyse, name) = analyse_steps name
@@ -26,6 +33,11 @@ steps_of (command, name) = λ read. refused (NotBuilt command)
 abbrev pub IsExplained : Option (Command × List ℕ) → Files → (before now : ℕ) → Option Files → Status → Type 0
 IsExplained None files before now left ended = (ended ≡ status.Usage) × (left ≡ Some files)
 IsExplained (Some call) files before now left ended = Explains (steps_of call) files before now left ended
+
+-- Whatever the cabinet tells: a command that isn't built is refused for that.
+abbrev pub IsUnbuilt : Option (Command × List ℕ) → Status → Type 0
+IsUnbuilt None ended = Unit {0}
+IsUnbuilt (Some call) ended = is_built call.0 ≡ false → ended ≡ status.Refused (NotBuilt call.0)
 
 -- By what was printed.
 abbrev pub IsPrinted : Option (Command × List ℕ) → Option Files → (before now : ℕ) → List ℕ → Option (List ℕ) → Status → Type 0

@@ -51,3 +51,9 @@ refusal_text (refusal.Lines n) = numbered (codes "lines ") n
 refusal_text (refusal.Forward refused) = codes "forward " ++ forward_text refused
 refusal_text (refusal.Database refused) = codes "database " ++ database_text refused
 refusal_text (refusal.NotBuilt command) = codes "not-built " ++ command_word command
+
+-- What is refused is wrong with what was given: no refusal says that memory is wanted, which is a status of its own.
+abbrev pub IsOfInput : Refusal → Type 0
+IsOfInput (refusal.Forward forward.OutOfMemory) = ⊥
+IsOfInput (refusal.Database database.OutOfMemory) = ⊥
+IsOfInput other = Unit {0}

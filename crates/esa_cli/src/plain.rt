@@ -1,12 +1,12 @@
 //! The top call: every command on one thread.
 
-ghost use Rattle.std.specs.Prelude.{◌≡◌, ◌↔◌, ℕ, List, map, string_bytes, Some, None};
+ghost use Rattle.std.specs.Prelude.{◌≡◌, ◌↔◌, ℕ, List, map, string_bytes, Some, None, false};
 ghost use Rattle.esa_lists.specs.Files.{Files};
 ghost use Rattle.esa_cli.specs.declared.status.Status.TheVariants as status;
 ghost use Rattle.esa_cli.specs.Call.{call_of};
 ghost use Rattle.esa_cli.specs.Ends.{Ends};
 ghost use Rattle.esa_cli.specs.Explains.{EndCounted, ending, status_of};
-ghost use Rattle.esa_cli.specs.Plain.{steps_of, IsExplained, IsPrinted, IsComplete, CallEnds};
+ghost use Rattle.esa_cli.specs.Plain.{is_built, steps_of, IsExplained, IsUnbuilt, IsPrinted, IsComplete, CallEnds};
 
 use crate::analyse::analyse;
 use crate::call::{Call, call_of};
@@ -26,8 +26,9 @@ fn run<K: Cabinet, P: Printer>(
     printer: &mut P,
     call: Call<'_>,
 ) -> Result<(), Stop>
-    ensures { Ends (steps_of (call.entry.command, call.entry.job.now)) (K.told cabinet.old) (K.told cabinet.new) (K.faults cabinet.old) (K.faults cabinet.new)
+    ensures ends { Ends (steps_of (call.entry.command, call.entry.job.now)) (K.told cabinet.old) (K.told cabinet.new) (K.faults cabinet.old) (K.faults cabinet.new)
         (P.told printer.old) (P.told printer.new) (P.faults printer.old) (P.faults printer.new) (ending result) }
+    ensures unbuilt { is_built call.entry.command ≡ false → result ≡ Err (Stop.Refused (Refusal.NotBuilt call.entry.command)) }
 {
     match call.command {
         Command::Analyse => analyse(alloc, cabinet, printer, call.job),
@@ -58,8 +59,9 @@ fn perform<K: Cabinet, P: Printer>(
     cabinet: &mut K,
     printer: &mut P,
 ) -> Status
-    ensures { CallEnds (call_of (map string_bytes words.now)) (K.told cabinet.old) (K.told cabinet.new) (K.faults cabinet.old) (K.faults cabinet.new)
+    ensures ends { CallEnds (call_of (map string_bytes words.now)) (K.told cabinet.old) (K.told cabinet.new) (K.faults cabinet.old) (K.faults cabinet.new)
         (P.told printer.old) (P.told printer.new) (P.faults printer.old) (P.faults printer.new) result }
+    ensures unbuilt { IsUnbuilt (call_of (map string_bytes words.now)) result }
 {
     match call_of(words) {
         None => Status::Usage,
@@ -82,6 +84,7 @@ pub fn esa_plain<K: Cabinet, P: Printer>(
     ensures usage { result ≡ status.Usage ↔ (call_of (map string_bytes words.now) ≡ None) }
     ensures explained { (files : Files) → K.told cabinet.old ≡ Some files
         → IsExplained (call_of (map string_bytes words.now)) files (K.faults cabinet.old) (K.faults cabinet.new) (K.told cabinet.new) result }
+    ensures unbuilt { IsUnbuilt (call_of (map string_bytes words.now)) result }
     ensures counted { EndCounted (K.told cabinet.old) (K.faults cabinet.old) (K.faults cabinet.new) (P.faults printer.old) (P.faults printer.new) result }
     ensures complete { IsComplete (call_of (map string_bytes words.now)) (K.told cabinet.old)
         (K.faults cabinet.old) (K.faults cabinet.new) (P.faults printer.old) (P.faults printer.new) result }

@@ -5,3 +5,9 @@ pub mod Shuffled
 pub mod Separators
 pub mod SeededLaws
 pub mod SeededCoins
+pub mod Order
+pub mod OrderLaws
+pub mod Table
+pub mod Attempt
+pub mod TableCoins
+pub mod TableLaws

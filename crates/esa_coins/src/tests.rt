@@ -1,9 +1,12 @@
-// Numbers that `tests/draw.py` draws from the published algorithms.
+// Drawn numbers are those that `tests/draw.py` draws from the published algorithms.
 use crate::check::import_places;
-use crate::{Coins, Draw, SeededCoins, order_holds, targets_hold};
+use crate::{Coins, CoinsRefused, Draw, SeededCoins, TableCoins, order_holds, targets_hold};
 use esa_params::{Form, Params, Plan, check};
 use std::alloc::{AllocError, Global};
 use std::test::Fail;
+use tables::{FILES, GOOD, OPEN};
+
+mod tables;
 
 fn plan_of(b: u64, c: u64, k: u64, attempts: u64, n: u32) -> Option<Plan> {
     let params = Params {
@@ -176,6 +179,98 @@ fn coins_hold(rt: HostRuntime) -> Result<(), Fail> {
         for (attempt, bucket) in [(0, 0), (0, 2), (1, 1)] {
             assert!(rt; all_hold(rt.alloc(), &coins, attempt, bucket)?);
         }
+    }
+    Ok(())
+}
+
+// ---- coins that are read from a file
+
+// Four records in two buckets, with three places of an import.
+fn small_plan(attempts: u64) -> Option<Plan> {
+    plan_of(2, 1, 1, attempts, 4)
+}
+
+// What reading a file comes to: `accepted`, or the refusal.
+fn answer(alloc: Global, plan: Plan, bytes: &[u8]) -> Result<String, AllocError> {
+    match TableCoins::read(alloc, bytes, plan) {
+        Ok(_) => String::from_str(alloc, "accepted"),
+        Err(CoinsRefused::Shape) => String::from_str(alloc, "shape"),
+        Err(CoinsRefused::Targets(attempt)) => format!(in alloc; "targets {attempt}"),
+        Err(CoinsRefused::Target { attempt, place }) => {
+            format!(in alloc; "target {attempt} {place}")
+        }
+        Err(CoinsRefused::Order { attempt, bucket }) => {
+            format!(in alloc; "order {attempt} {bucket}")
+        }
+        Err(CoinsRefused::OutOfMemory) => Err(AllocError),
+    }
+}
+
+#[test]
+fn coins_files(rt: HostRuntime) -> Result<(), Fail> {
+    for line in FILES.lines() {
+        let (attempts, rest) = line.split_once('|').ok_or("a number of attempts")?;
+        let (wanted, file) = rest.split_once('|').ok_or("an answer")?;
+        let plan = small_plan(attempts.parse::<u64>()?).ok_or("a plan")?;
+        let found = answer(rt.alloc(), plan, file.as_bytes())?;
+        assert_eq!(rt; found.as_str(), wanted, "{line}");
+    }
+    Ok(())
+}
+
+// The front of a coins file is none.
+#[test]
+fn prefixes_of_a_coins_file(rt: HostRuntime) -> Result<(), Fail> {
+    let plan = small_plan(1).ok_or("a plan")?;
+    let file = GOOD.as_bytes();
+    for length in 0..file.len() {
+        let found = answer(rt.alloc(), plan, &file[..length])?;
+        assert_eq!(rt; found.as_str(), "shape", "{length}");
+    }
+    assert_eq!(rt; answer(rt.alloc(), plan, file)?.as_str(), "accepted");
+    Ok(())
+}
+
+#[test]
+fn at_most_127_deep(rt: HostRuntime) -> Result<(), Fail> {
+    let plan = small_plan(1).ok_or("a plan")?;
+    for (depth, wanted) in [(2, "accepted"), (127, "accepted"), (128, "shape")] {
+        let mut text = Vec::new(rt.alloc());
+        text.extend_from_slice(OPEN.as_bytes())?;
+        for _ in 1..depth {
+            text.push(b'[')?;
+        }
+        for _ in 1..depth {
+            text.push(b']')?;
+        }
+        text.push(b'}')?;
+        assert_eq!(rt; answer(rt.alloc(), plan, text.as_slice())?.as_str(), wanted);
+    }
+    Ok(())
+}
+
+#[test]
+fn lists_of_a_coins_file(rt: HostRuntime) -> Result<(), Fail> {
+    let alloc = rt.alloc();
+    let plan = small_plan(2).ok_or("a plan")?;
+    let file = br#"{"attempts":[
+        {"targets":[0,0,1,0],"orders":[[1,2,0],[0,2,1]]},
+        {"targets":[1,0,1,1],"orders":[[2,1,0],[0,1,2]]}]}"#;
+    let coins = match TableCoins::read(alloc, file.as_slice(), plan) {
+        Ok(coins) => coins,
+        Err(_) => return Err(Fail::from("the file is good")),
+    };
+    for (attempt, bucket, targets, order) in [
+        (0, 0, [0, 0], [1, 2, 0]),
+        (0, 1, [1, 0], [0, 2, 1]),
+        (1, 0, [1, 0], [2, 1, 0]),
+        (1, 1, [1, 1], [0, 1, 2]),
+    ] {
+        let found = targets_of(alloc, &coins, attempt, bucket)?;
+        assert_eq!(rt; found.as_slice(), targets.as_slice());
+        let found = order_of(alloc, &coins, attempt, bucket)?;
+        assert_eq!(rt; found.as_slice(), order.as_slice());
+        assert!(rt; all_hold(alloc, &coins, attempt, bucket)?);
     }
     Ok(())
 }

@@ -1,5 +1,7 @@
 pub mod Blocks
 pub mod Counting
+pub mod Fixed
 pub mod Laying
 pub mod Memory
+pub mod OnFile
 pub mod Recording

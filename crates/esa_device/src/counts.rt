@@ -1,9 +1,11 @@
 //! What a device counts of its calls.
 
-ghost use Rattle.std.specs.Prelude.{◌≡◌, ◌≤◌};
+ghost use Rattle.std.specs.Prelude.{◌≡◌, ◌≤◌, OnOk, OnErr};
 ghost use Rattle.esa_device.specs.Counting.{called, faulted};
 
+use esa_outside::Failed;
 use esa_params::Op;
+use std::io;
 
 /// The counts of faults and of reads and writes, and the last of these. A count that stands at its last value stays
 /// there.
@@ -40,5 +42,19 @@ impl Counts {
         ensures later { self.old.faults ≤ self.new.faults }
     {
         self.faults = self.faults.saturating_add(1);
+    }
+    /// Counts a fault where the machine answered an error.
+    pub fn settle<T: Drop>(&mut self, answer: io::Result<T>) -> Result<T, Failed>
+        ensures ok { OnOk result (self.new ≡ self.old) }
+        ensures err { OnErr result (self.new ≡ faulted self.old) }
+        ensures later { self.old.faults ≤ self.new.faults }
+    {
+        match answer {
+            Ok(value) => Ok(value),
+            Err(_) => {
+                self.fault();
+                Err(Failed)
+            }
+        }
     }
 }

@@ -8,9 +8,16 @@
 
 mod counts;
 mod device;
+mod file;
+mod fixed;
 mod memory;
 mod recorder;
 
 pub use device::{Device, LayRefused};
+pub use file::FileDevice;
+pub use fixed::FixedDevice;
 pub use memory::{Flip, MemDevice};
 pub use recorder::Recorder;
+
+#[cfg(test)]
+mod tests;

@@ -92,7 +92,8 @@ impl Device for MemDevice {
     fn lay(&mut self, plan: &Plan) -> Result<(), LayRefused>
         ensures laid { OnOk result (self.new ≡ record self.old { blocks = zero_blocks plan.now; plan = Some plan.now }) }
         ensures refused { OnErr result (self.new.plan ≡ None) }
-        ensures kept { OnErr result (self.new.flips ≡ self.old.flips) }
+        ensures fails { self.new.fails ≡ self.old.fails }
+        ensures flips { self.new.flips ≡ self.old.flips }
 
         // It fails exactly where the number 0 is listed.
         ensures listed { (result ≡ Err LayRefused.Failed) ↔ Contains self.old.fails 0 }

@@ -134,6 +134,20 @@ impl<V: Device> Recorder<V> {
         self.device.write(number, bytes)
     }
 
+    /// The plan that it is ready for.
+    pub fn plan(&self) -> Option<Plan>
+        ensures { result ≡ self.now.plan }
+    {
+        self.plan
+    }
+
+    /// How many more accesses there is room for.
+    pub fn room(&self) -> usize
+        ensures { result ≡ self.now.room }
+    {
+        self.trace.capacity() - self.trace.len()
+    }
+
     /// The accesses that were made, in order.
     pub fn trace(&self) -> &[Access]
         ensures trace { result.now ≡ self.now.trace }

@@ -1,1 +1,2 @@
 pub mod UnderwayLaws
+pub mod WritingLaws

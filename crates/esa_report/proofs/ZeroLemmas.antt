@@ -1,7 +1,9 @@
 -- Zero bytes are copies of zero.
-use Rattle.std.proofs.Common.{◌≡◌, ℕ, zero, suc, true, List, [], ◌∷◌, length, drop, eqb, refl, ap}
-use Rattle.std.specs.Prelude.{replicate}
+use Rattle.std.proofs.Common.{◌≡◌, ℕ, zero, suc, ◌-◌, true, List, [], ◌∷◌, length, take, drop, get_or, eqb, refl, ap, arith}
+use Rattle.std.specs.Prelude.{bytes_eq, replicate}
 use Rattle.std.proofs.lemmas.Bool.{and_parts, eqb-true}
+use Rattle.std.proofs.lemmas.List.{take_all}
+use Rattle.std.proofs.Math.Dec.{eqb-suc-zero, eqb-zero-suc}
 use Rattle.esa_report.specs.Item.{zero_body}
 use Rattle.esa_report.specs.Zero.{is_zero}
 
@@ -23,3 +25,16 @@ is_zero-drop (suc n) (byte ∷ rest) h = is_zero-drop n rest (and_parts (eqb byt
 pub is_zero-zero_body : is_zero zero_body ≡ true
 unfolding zero_body
 is_zero-zero_body = is_zero-replicate 264
+
+same_behind : (bytes : List ℕ) → bytes_eq (take (length bytes) (0 ∷ bytes)) bytes ≡ is_zero bytes
+same_behind [] = refl
+same_behind (zero ∷ rest) = same_behind rest
+same_behind (suc n ∷ rest) = rw (eqb-suc-zero n, eqb-zero-suc n) refl
+
+-- bytes behind a zero byte are zero where each equals the one before it
+pub is_zero-shifted : (bytes : List ℕ) → get_or bytes 0 0 ≡ 0
+    → bytes_eq (take (length bytes - 1) bytes) (take (length bytes - 1) (drop 1 bytes)) ≡ is_zero bytes
+is_zero-shifted [] first = refl
+is_zero-shifted (byte ∷ rest) first =
+    let n : length (byte ∷ rest) - 1 ≡ length rest = omega arith in
+    rw (n, first, take_all (length rest) rest (omega arith)) (same_behind rest)

@@ -5,7 +5,8 @@ use Rattle.esa_header.proofs.HeaderLaws.{same_number}
 use Rattle.esa_analyser.specs.Rows.{row_bytes}
 use Rattle.esa_analyser.specs.SortKey.{IsSortKey}
 use Rattle.esa_analyser.specs.RunBytes.{run_bytes}
-use Rattle.esa_analyser.proofs.RunWriting.{all_behind, run_step, no_run_bytes, underway_more, underway_all, left_whole}
+use Rattle.esa_page.proofs.WritingLaws.{underway_more, underway_all, left_whole}
+use Rattle.esa_analyser.proofs.RunWriting.{all_behind, run_step, no_run_bytes}
 use Rattle.esa_analyser.proofs.keys.put_runs.Goals as goal
 
 pub returns-in_err-put_row-clause-failed : goal.returns-in_err-put_row-clause-failed

@@ -1,7 +1,8 @@
 use Rattle.std.proofs.Common.{◌++◌, [], refl, ◌∙◌}
 use Rattle.std.proofs.lemmas.Result.{err_from_is_err_and}
 use Rattle.esa_analyser.specs.Rows.{row_bytes}
-use Rattle.esa_analyser.proofs.RunWriting.{row_step, underway_none, underway_more, left_whole}
+use Rattle.esa_page.proofs.WritingLaws.{underway_none, underway_more, left_whole}
+use Rattle.esa_analyser.proofs.RunWriting.{row_step}
 use Rattle.esa_analyser.proofs.write.put_rows.Goals as goal
 
 pub loop-row-init : goal.loop-row-init

@@ -1,5 +1,5 @@
 use Rattle.esa_analyser.specs.Rows.{database_bytes}
-use Rattle.esa_analyser.proofs.RunWriting.{OnOk-whole, OnErr-left, silent-still}
+use Rattle.esa_page.proofs.WritingLaws.{OnOk-whole, OnErr-left, silent-still}
 use Rattle.esa_analyser.proofs.write.write_db.Goals as goal
 
 pub returns-clause-written : goal.returns-clause-written

@@ -1,7 +1,11 @@
 use Rattle.std.proofs.Common.{subst, arith}
 use Rattle.std.specs.Prelude.{OnOk, OnErr}
 use Rattle.esa_page.specs.Underway.{IsWhole, IsLeft}
-use Rattle.esa_analyser.proofs.RunWriting.{OnOk-whole, OnErr-left, silent-still}
+use Rattle.esa_analyser.specs.Counted.{Counted}
+use Rattle.esa_analyser.specs.Kept.{keys_of, form_of}
+use Rattle.esa_analyser.specs.Rows.{IsDatabase}
+use Rattle.esa_analyser.proofs.KeptLaws.{IsDatabase-keys}
+use Rattle.esa_page.proofs.WritingLaws.{OnOk-whole, OnErr-left, silent-still}
 use Rattle.esa_analyser.proofs.KeptWriting.{kept_file}
 use Rattle.esa_analyser.proofs.analysis.Analysis.write.Goals as goal
 
@@ -24,3 +28,10 @@ returns-clause-failed g c =
 
 pub returns-clause-silent : goal.returns-clause-silent
 returns-clause-silent g c = silent-still c.write_kept.result (g.K.Cabinet.told c.args.cabinet.now) c.args.name.now _ (g.K.Cabinet.told c.write_kept.new.cabinet) c.write_kept.ensures.whole c.write_kept.ensures.left
+
+pub returns-clause-readable : goal.returns-clause-readable
+returns-clause-readable g c =
+    let is = c.self.invariant in
+    let kept = c.self.inside.kept in
+    subst (λ (v : Counted). IsDatabase v.form v.database) c.self.view_is
+    (IsDatabase-keys (form_of kept) (keys_of kept) c.self.inside.total is.sorted.keys is.sorted.order is.few is.small)

@@ -1,0 +1,11 @@
+pub mod Parts
+pub mod RisingLaws
+pub mod BatchLaws
+pub mod Held
+pub mod InFileLaws
+pub mod OrderLaws
+pub mod FrontLaws
+pub mod ScanLaws
+pub mod Writing
+pub mod GatheringLaws
+pub mod LinesLaws

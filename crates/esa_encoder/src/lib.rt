@@ -1,0 +1,19 @@
+//! Seals reports: lines of reports become lines of submissions.
+//!
+//! A report is sealed for the analyser, and that, with its crowd's id, for the shuffler. Line by line, what is written
+//! is a definition over the line that was read, and a refusal is that of the first bad line, with its first cause. The
+//! crate stands on `esa_bytes`, `esa_envelope`, `esa_line`, `esa_params`, `esa_report`, `hex` and `sha2`.
+#![tactic(auto)]
+
+mod count;
+mod head;
+mod nonces;
+mod report;
+mod seal;
+mod submission;
+#[cfg(test)]
+mod tests;
+
+pub use count::{MOST_LINES, line_count};
+pub use nonces::nonces_are_distinct;
+pub use submission::{EncodeRefused, Meta, encode, encode_line, encode_line_with};

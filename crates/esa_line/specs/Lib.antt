@@ -1,0 +1,3 @@
+pub mod Front
+pub use Rattle.esa_bytes.specs.Decimal
+pub use Rattle.esa_bytes.specs.Lines

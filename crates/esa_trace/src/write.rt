@@ -1,0 +1,76 @@
+//! Writing a trace.
+
+ghost use Rattle.std.specs.Prelude.{◌≡◌, ◌⊎◌, ◌<◌, ◌^◌, ◌++◌, List, ℕ, None, Some, Option, All, length, flat_map, OnOk, OnErr};
+ghost use Rattle.std.specs.FinMap as map;
+ghost use Rattle.esa_outside.specs.Files.{Files};
+ghost use Rattle.esa_outside.specs.Cause.{HasCause};
+ghost use Rattle.esa_outside.specs.Told.{HoldsFront};
+ghost use Rattle.esa_page.specs.Underway.{IsUnderway, IsWhole, IsLeft};
+ghost use Rattle.esa_spec.specs.Files.{access_bytes, trace_bytes};
+
+use crate::bytes::{header, spell};
+use esa_outside::{Cabinet, Failed};
+use esa_page::Page;
+use esa_params::Access;
+
+// Puts the accesses behind the bytes that wait in the page.
+fn put_accesses<K: Cabinet>(
+    accesses: &[Access],
+    page: &mut Page,
+    cabinet: &mut K,
+    name: &str,
+) -> Result<(), Failed>
+    requires { All (λ access. access.attempt < 256) accesses.now }
+    ensures added { (before : Option Files) (text : List ℕ)
+        → IsUnderway before name.now text page.old (K.told cabinet.old)
+        → OnOk result (IsUnderway before name.now (text ++ flat_map access_bytes accesses.now) page.new (K.told cabinet.new)) }
+    ensures failed { (before : Option Files) (text : List ℕ)
+        → IsUnderway before name.now text page.old (K.told cabinet.old)
+        → OnErr result (IsLeft before name.now (text ++ flat_map access_bytes accesses.now) (K.told cabinet.new)) }
+    ensures cause { (before : Option Files) (text : List ℕ)
+        → IsUnderway before name.now text page.old (K.told cabinet.old)
+        → HasCause (K.faults cabinet.old) (K.faults cabinet.new) ⊥ result }
+{
+    for index in 0..accesses.len() {
+        page.put(cabinet, name, &spell(&accesses[index]))?;
+    }
+    Ok(())
+}
+
+// Writes the whole file. It starts anew.
+fn write_file<K: Cabinet>(accesses: &[Access], cabinet: &mut K, name: &str) -> Result<(), Failed>
+    requires attempts { All (λ access. access.attempt < 256) accesses.now }
+    requires number { length accesses.now < 2 ^ 32 }
+    ensures whole { OnOk result (IsWhole (K.told cabinet.old) name.now (trace_bytes accesses.now) (K.told cabinet.new)) }
+    ensures left { OnErr result (IsLeft (K.told cabinet.old) name.now (trace_bytes accesses.now) (K.told cabinet.new)) }
+    ensures cause { HasCause (K.faults cabinet.old) (K.faults cabinet.new) ⊥ result }
+{
+    let mut page = Page::start(cabinet, name)?;
+    page.put(cabinet, name, &header(accesses.len() as u32))?;
+    put_accesses(accesses, &mut page, cabinet, name)?;
+    page.finish(cabinet, name)
+}
+
+/// Writes a trace as a file, which starts anew. It takes no memory.
+///
+/// The header is `ESAT`, the version 1, and the number of accesses in four bytes. An access is its operation (0 a
+/// read, 1 a write), its region (0 `Input`, 1 `Mid`, 2 `Tail`, 3 `Output`) and its attempt in one byte each, its index
+/// and its length in four bytes each, and its nonce in eight. All numbers are big-endian.
+pub fn write_trace<K: Cabinet>(
+    accesses: &[Access],
+    cabinet: &mut K,
+    name: &str,
+) -> Result<(), Failed>
+    requires attempts { All (λ access. access.attempt < 256) accesses.now }
+    requires number { length accesses.now < 2 ^ 32 }
+    ensures written { (files : Files) → K.told cabinet.old ≡ Some files
+        → OnOk result (K.told cabinet.new ≡ Some (map.insert files name.now (trace_bytes accesses.now))) }
+
+    // A failed call leaves the file as it was, or a front of the whole file.
+    ensures failed { (files : Files) → K.told cabinet.old ≡ Some files
+        → OnErr result ((K.told cabinet.new ≡ Some files) ⊎ HoldsFront files name.now (trace_bytes accesses.now) (K.told cabinet.new)) }
+    ensures silent { K.told cabinet.old ≡ None → K.told cabinet.new ≡ None }
+    ensures cause { HasCause (K.faults cabinet.old) (K.faults cabinet.new) ⊥ result }
+{
+    write_file(accesses, cabinet, name)
+}
