@@ -9,6 +9,7 @@
 mod bare;
 mod coins;
 mod device;
+mod encode;
 mod forecast;
 mod forward;
 mod stash;
@@ -17,6 +18,7 @@ mod vault;
 
 use anyhow::{Context, Result, bail};
 use coins::{Drawn, Reading};
+use encode::Call;
 use esa_coins::Draw;
 use esa_params::Form;
 use forward::Values;
@@ -33,6 +35,7 @@ fn main(rt: HostRuntime) -> Result<()> {
         coins::small(&rt)?;
         device::write_and_read(&rt)?;
         stash::fill(&rt, 4_000, Then::Exchanges(2))?;
+        encode::small(&rt, rt.alloc())?;
         vault::small(&rt)?;
         forecast::small(&rt, rt.alloc())?;
         return turnstile::small(&rt, rt.alloc());
@@ -101,6 +104,8 @@ fn run<R: Print + Files + AllocGlobal>(rt: &R, module: &str, size: u64) -> Resul
     match module {
         "hash" => bare::hash(rt, size),
         "keystream" => bare::keystream(rt, size),
+        "digits-slice" => encode::digits(rt, rt.alloc(), Call::Slice, size),
+        "digits-text" => encode::digits(rt, rt.alloc(), Call::Text, size),
         "forward-seven" => forward::write(rt, Values::Seven, size),
         "forward-distinct" => forward::write(rt, Values::Distinct, size),
         "coins-single" => coins::draw(rt, Drawn::Coins, Draw::Single, size),

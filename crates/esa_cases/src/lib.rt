@@ -8,6 +8,10 @@ mod databases;
 #[cfg(test)]
 mod desk;
 #[cfg(test)]
+mod encoding;
+#[cfg(test)]
 mod faults;
+#[cfg(test)]
+mod generating;
 #[cfg(test)]
 mod refusals;
