@@ -1,5 +1,5 @@
 -- Records whose order is looked at part by part.
-use Rattle.std.proofs.Common.{◌≡◌, ℕ, suc, zero, ◌+◌, ◌-◌, ◌*◌, ◌/◌, ◌<◌, ◌≤◌, Bool, true, false, cond, List, [], ◌∷◌, length, take, drop, Some, None, sym, refl, ap, ◌∙◌, arith}
+use Rattle.std.proofs.Common.{◌≡◌, ℕ, suc, zero, ◌+◌, ◌-◌, ◌*◌, ◌/◌, ◌<◌, ◌≤◌, Bool, true, false, cond, List, [], ◌∷◌, length, take, drop, Option, Some, None, sym, refl, ap, ◌∙◌, arith}
 use Rattle.std.specs.Ordering.{is_lt}
 use Rattle.std.proofs.Math.Nat.{le-div_iff_mul-le}
 use Rattle.std.specs.List.{concat}
@@ -10,7 +10,7 @@ use Rattle.esa_header.proofs.PieceLaws.{pieces-concat}
 use Rattle.esa_batcher.specs.Rising.{by_bytes, fall_behind, fall_at}
 
 -- the pieces of some records that lie one behind another are these records
-pub part_records : (size first number : ℕ) (records : List (List ℕ)) (part : List ℕ) → HaveLength size records → first + number ≤ length records → part ≡ concat (take number (drop first records))
+part_records : (size first number : ℕ) (records : List (List ℕ)) (part : List ℕ) → HaveLength size records → first + number ≤ length records → part ≡ concat (take number (drop first records))
     → pieces size number part ≡ take number (drop first records)
 part_records size first number records part have within is =
     let some = take number (drop first records) in
@@ -18,6 +18,11 @@ part_records size first number records part have within is =
     ap (λ bytes. pieces size number bytes) is
     ∙ ap (λ n. pieces size n (concat some)) (sym long)
     ∙ pieces-concat size some (All-take (λ piece. length piece ≡ size) number (drop first records) (All-drop (λ piece. length piece ≡ size) first records have))
+
+-- so the first fall among the bytes is that among the records
+pub part_order : (size first number : ℕ) (records : List (List ℕ)) (part : List ℕ) (fall : Option ℕ) → HaveLength size records → first + number ≤ length records → part ≡ concat (take number (drop first records))
+    → fall ≡ fall_at first (pieces size number part) → fall ≡ fall_at first (take number (drop first records))
+part_order size first number records part fall have within is found = found ∙ ap (fall_at first) (part_records size first number records part have within is)
 
 drop_none : (n : ℕ) → ◌≡◌ {A = List (List ℕ)} (drop n []) []
 drop_none zero = refl
@@ -65,17 +70,16 @@ one_up : (number : ℕ) → 2 ≤ number → suc (number - 1) ≡ number
 one_up number two = omega arith
 
 -- one part further
-pub order_further : (first number : ℕ) (records : List (List ℕ)) → 2 ≤ number → fall_at 0 records ≡ fall_at first (drop first records)
-    → fall_at first (take number (drop first records)) ≡ None → fall_at 0 records ≡ fall_at (first + (number - 1)) (drop (first + (number - 1)) records)
-order_further first number records two so_far none =
-    so_far
-    ∙ fall_at-further (number - 1) first (drop first records) (ap (λ n. fall_at first (take n (drop first records))) (one_up number two) ∙ none)
-    ∙ ap (fall_at (first + (number - 1))) (drop-drop (number - 1) first records)
+module _ (first number : ℕ) (records : List (List ℕ)) (two : 2 ≤ number) (so_far : fall_at 0 records ≡ fall_at first (drop first records)) (fall : Option ℕ) (found : fall ≡ fall_at first (take number (drop first records))) where
+  pub order_further : fall ≡ None → fall_at 0 records ≡ fall_at (first + (number - 1)) (drop (first + (number - 1)) records)
+  order_further none =
+      so_far
+      ∙ fall_at-further (number - 1) first (drop first records) (ap (λ n. fall_at first (take n (drop first records))) (one_up number two) ∙ sym found ∙ none)
+      ∙ ap (fall_at (first + (number - 1))) (drop-drop (number - 1) first records)
 
-pub order_found : (first number fall : ℕ) (records : List (List ℕ)) → 2 ≤ number → fall_at 0 records ≡ fall_at first (drop first records)
-    → Some fall ≡ fall_at first (take number (drop first records)) → Some fall ≡ fall_at 0 records
-order_found first number fall records two so_far some =
-    sym (so_far ∙ fall_at-found (number - 1) first fall (drop first records) (ap (λ n. fall_at first (take n (drop first records))) (one_up number two) ∙ sym some))
+  pub order_found : (place : ℕ) → fall ≡ Some place → Some place ≡ fall_at 0 records
+  order_found place some =
+      sym (so_far ∙ fall_at-found (number - 1) first place (drop first records) (ap (λ n. fall_at first (take n (drop first records))) (one_up number two) ∙ sym found ∙ some))
 
 pub order_last : (first count : ℕ) (records : List (List ℕ)) → length records ≡ count → count ≤ first + 1 → fall_at 0 records ≡ fall_at first (drop first records) → None ≡ fall_at 0 records
 order_last first count records long last so_far =

@@ -28,3 +28,5 @@ pub use read::read_batch;
 pub use refused::{AddRefused, BatchRefused};
 pub use scan::{MOST_BYTES, ScanRefused, Scanned, scan_batch};
 
+#[cfg(test)]
+mod tests;

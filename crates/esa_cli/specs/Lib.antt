@@ -1,8 +1,14 @@
 pub mod Analyse
+pub mod Asked
+pub mod Batching
 pub mod Call
 pub mod Counting
+pub mod Encode
+pub mod Encoding
 pub mod Ends
 pub mod Explains
+pub mod Gathered
+pub mod Generate
 pub mod Judged
 pub mod Loaded
 pub mod Plain

@@ -4,6 +4,9 @@ use Rattle.esa_lists.specs.Files.{Files}
 use Rattle.esa_job.specs.declared.command.Command.{Command}
 use Rattle.esa_job.specs.declared.command.Command.TheVariants as command
 use Rattle.esa_cli.specs.Analyse.{analyse_steps}
+use Rattle.esa_cli.specs.Batching.{batch_steps}
+use Rattle.esa_cli.specs.Encode.{encode_steps}
+use Rattle.esa_cli.specs.Generate.{generate_steps}
 use Rattle.esa_cli.specs.Stored.{histogram_steps, upgrade_steps}
 use Rattle.esa_cli.specs.declared.refusal.Refusal.TheVariants.{NotBuilt}
 use Rattle.esa_cli.specs.declared.status.Status.{Status}
@@ -17,6 +20,9 @@ use Rattle.esa_cli.specs.Work.{Work}
 
 -- the commands that are built
 abbrev pub is_built : Command → Bool
+is_built command.Gen = true
+is_built command.Encode = true
+is_built command.Batch = true
 is_built command.Analyse = true
 is_built command.Histogram = true
 is_built command.Upgrade = true
@@ -24,6 +30,9 @@ is_built _ = false
 
 -- the steps of a command over the job file of this name; a command that isn't built yet is refused
 abbrev pub steps_of : Command × List ℕ → Reads → Step Work
+steps_of (command.Gen, name) = generate_steps name
+steps_of (command.Encode, name) = encode_steps name
+steps_of (command.Batch, name) = batch_steps name
 steps_of (command.Analyse, name) = analyse_steps name
 steps_of (command.Histogram, name) = histogram_steps name
 steps_of (command.Upgrade, name) = upgrade_steps name

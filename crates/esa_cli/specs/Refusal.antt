@@ -1,6 +1,11 @@
 -- The text of each refusal.
 use Rattle.std.specs.Prelude.{ℕ, List, ◌++◌, codes, decimal}
 use Rattle.esa_bytes.specs.declared.cut.Cut.{Cut}
+use Rattle.esa_line.specs.declared.refused.LineCause.{LineCause}
+use Rattle.esa_line.specs.declared.refused.LineCause.TheVariants as cause
+use Rattle.esa_line.specs.declared.refused.LineRefused.{LineRefused}
+use Rattle.esa_batcher.specs.declared.refused.BatchRefused.{BatchRefused}
+use Rattle.esa_batcher.specs.declared.refused.BatchRefused.TheVariants as batch
 use Rattle.esa_threshold.specs.declared.refused.ForwardRefused.{ForwardRefused}
 use Rattle.esa_threshold.specs.declared.refused.ForwardRefused.TheVariants as forward
 use Rattle.esa_analyser.specs.declared.refused.DbRefused.{DbRefused}
@@ -17,6 +22,30 @@ numbered word number = word ++ decimal number
 -- a file that ends too early
 abbrev pub cut_text : Cut → List ℕ
 cut_text cut = numbered (codes "cut want ") cut.want ++ numbered (codes " have ") cut.have
+
+-- what is wrong with a batch
+abbrev pub batch_text : BatchRefused → List ℕ
+batch_text batch.BadMagic = codes "bad-magic"
+batch_text batch.BadVersion = codes "bad-version"
+batch_text batch.BadSize = codes "bad-size"
+batch_text (batch.Cut cut) = cut_text cut
+batch_text batch.Trailing = codes "trailing"
+batch_text (batch.Unsorted place) = numbered (codes "unsorted ") place
+batch_text (batch.TooFew n m) = numbered (codes "too-few ") n ++ numbered (codes " ") m
+batch_text (batch.TooMany n) = numbered (codes "too-many ") n
+batch_text batch.OutOfMemory = codes "out-of-memory"
+
+-- why a line is refused
+abbrev pub cause_word : LineCause → List ℕ
+cause_word cause.MissingField = codes "missing-field"
+cause_word cause.BadMoment = codes "bad-moment"
+cause_word cause.BadSender = codes "bad-sender"
+cause_word cause.TooLong = codes "too-long"
+cause_word cause.BadHex = codes "bad-hex"
+
+-- which line is refused, and why
+abbrev pub line_text : LineRefused → List ℕ
+line_text refused = numbered (codes "line ") refused.line ++ (codes " " ++ cause_word refused.cause)
 
 -- what is wrong with a forward file
 abbrev pub forward_text : ForwardRefused → List ℕ
@@ -47,6 +76,8 @@ refusal_text (refusal.Params field) = codes "params " ++ param_word field
 refusal_text (refusal.Keys field) = codes "keys " ++ key_word field
 refusal_text (refusal.Drops line) = numbered (codes "drops ") line
 refusal_text (refusal.Turns line) = numbered (codes "turns ") line
+refusal_text (refusal.Batch refused) = codes "batch " ++ batch_text refused
+refusal_text (refusal.Line refused) = line_text refused
 refusal_text (refusal.Lines n) = numbered (codes "lines ") n
 refusal_text (refusal.Forward refused) = codes "forward " ++ forward_text refused
 refusal_text (refusal.Database refused) = codes "database " ++ database_text refused
@@ -54,6 +85,7 @@ refusal_text (refusal.NotBuilt command) = codes "not-built " ++ command_word com
 
 -- What is refused is wrong with what was given: no refusal says that memory is wanted, which is a status of its own.
 abbrev pub IsOfInput : Refusal → Type 0
+IsOfInput (refusal.Batch batch.OutOfMemory) = ⊥
 IsOfInput (refusal.Forward forward.OutOfMemory) = ⊥
 IsOfInput (refusal.Database database.OutOfMemory) = ⊥
 IsOfInput other = Unit {0}

@@ -2,7 +2,11 @@
 #![tactic(auto)]
 
 mod analyse;
+mod asked;
+mod batch;
 mod call;
+mod encode;
+mod generate;
 mod line;
 mod plain;
 mod printing;
@@ -15,6 +19,7 @@ mod stored;
 mod taking;
 mod telling;
 mod words;
+mod writing;
 
 pub use plain::esa_plain;
 pub use refusal::Refusal;

@@ -9,7 +9,10 @@ ghost use Rattle.esa_cli.specs.Explains.{EndCounted, ending, status_of};
 ghost use Rattle.esa_cli.specs.Plain.{is_built, steps_of, IsExplained, IsUnbuilt, IsPrinted, IsComplete, CallEnds};
 
 use crate::analyse::analyse;
+use crate::batch::batch;
 use crate::call::{Call, call_of};
+use crate::encode::encode;
+use crate::generate::generate;
 use crate::refusal::Refusal;
 use crate::status::Status;
 use crate::stop::Stop;
@@ -31,6 +34,9 @@ fn run<K: Cabinet, P: Printer>(
     ensures unbuilt { is_built call.entry.command ≡ false → result ≡ Err (Stop.Refused (Refusal.NotBuilt call.entry.command)) }
 {
     match call.command {
+        Command::Gen => generate(alloc, cabinet, printer, call.job),
+        Command::Encode => encode(alloc, cabinet, printer, call.job),
+        Command::Batch => batch(alloc, cabinet, printer, call.job),
         Command::Analyse => analyse(alloc, cabinet, printer, call.job),
         Command::Histogram => histogram(alloc, cabinet, printer, call.job),
         Command::Upgrade => upgrade(alloc, cabinet, printer, call.job),

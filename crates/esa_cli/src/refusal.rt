@@ -1,13 +1,15 @@
 //! Why a command was refused, and the text that says so.
 
 ghost use Rattle.std.specs.Prelude.{◌≡◌, ◌+◌, ◌≤◌, ◌++◌, length, codes};
-ghost use Rattle.esa_cli.specs.Refusal.{refusal_text, forward_text, database_text, cut_text, numbered};
+ghost use Rattle.esa_cli.specs.Refusal.{refusal_text, batch_text, cause_word, line_text, forward_text, database_text, cut_text, numbered};
 
 use crate::line::Line;
 use crate::words::{word_of_param, word_of_role};
 use esa_analyser::DbRefused;
+use esa_batcher::BatchRefused;
 use esa_bytes::Cut;
 use esa_job::{Command, JobField, KeyField};
+use esa_line::{LineCause, LineRefused};
 use esa_outside::Role;
 use esa_params::ParamField;
 use esa_threshold::ForwardRefused;
@@ -29,6 +31,10 @@ pub enum Refusal {
     Drops(u64),
     /// A line of the turns file, counted from 1.
     Turns(u64),
+    /// The batch file breaks its format, or there are too few records.
+    Batch(BatchRefused),
+    /// A line of reports or submissions.
+    Line(LineRefused),
     /// More lines than can be encoded or batched.
     Lines {
         /// Their number.
@@ -54,6 +60,8 @@ pub fn add_refusal(line: &mut Line, refusal: &Refusal)
         Refusal::Keys(field) => add_pair(line, "keys ", field.word()),
         Refusal::Drops(number) => add_numbered(line, "drops ", *number),
         Refusal::Turns(number) => add_numbered(line, "turns ", *number),
+        Refusal::Batch(refused) => add_batch(line, refused),
+        Refusal::Line(refused) => add_line(line, refused),
         Refusal::Lines { n } => add_numbered(line, "lines ", *n),
         Refusal::Forward(refused) => add_forward(line, refused),
         Refusal::Database(refused) => add_database(line, refused),
@@ -73,7 +81,7 @@ fn add_pair(line: &mut Line, first: &str, second: &str)
 }
 
 // Adds a word and a number.
-fn add_numbered(line: &mut Line, word: &str, number: u64)
+pub fn add_numbered(line: &mut Line, word: &str, number: u64)
     requires line { length line.old ≤ 80 }
     requires word { length word.now ≤ 20 }
     ensures text { line.new ≡ line.old ++ numbered word.now number }
@@ -125,4 +133,56 @@ fn add_database(line: &mut Line, refused: &DbRefused)
         DbRefused::Trailing => line.word("trailing"),
         DbRefused::OutOfMemory => line.word("out-of-memory"),
     }
+}
+
+// Adds what is wrong with a batch.
+fn add_batch(line: &mut Line, refused: &BatchRefused)
+    requires { length line.old ≤ 20 }
+    ensures { line.new ≡ line.old ++ (codes "batch " ++ batch_text refused.now) }
+{
+    line.word("batch ");
+    match refused {
+        BatchRefused::BadMagic => line.word("bad-magic"),
+        BatchRefused::BadVersion => line.word("bad-version"),
+        BatchRefused::BadSize => line.word("bad-size"),
+        BatchRefused::Cut(cut) => add_cut(line, cut),
+        BatchRefused::Trailing => line.word("trailing"),
+        BatchRefused::Unsorted(place) => add_numbered(line, "unsorted ", u64::from(*place)),
+        BatchRefused::TooFew { n, m } => add_too_few(line, *n, *m),
+        BatchRefused::TooMany { n } => add_numbered(line, "too-many ", u64::from(*n)),
+        BatchRefused::OutOfMemory => line.word("out-of-memory"),
+    }
+}
+
+// Adds how many records there are, and how many were wanted.
+fn add_too_few(line: &mut Line, n: u32, m: u32)
+    requires { length line.old ≤ 40 }
+    ensures { line.new ≡ line.old ++ (numbered (codes "too-few ") n ++ numbered (codes " ") m) }
+{
+    add_numbered(line, "too-few ", u64::from(n));
+    add_numbered(line, " ", u64::from(m));
+}
+
+// The word of a cause.
+fn word_of_cause(cause: LineCause) -> &'static str
+    ensures word { result.now ≡ cause_word cause }
+    ensures short { length result.now ≤ 20 }
+{
+    match cause {
+        LineCause::MissingField => "missing-field",
+        LineCause::BadMoment => "bad-moment",
+        LineCause::BadSender => "bad-sender",
+        LineCause::TooLong => "too-long",
+        LineCause::BadHex => "bad-hex",
+    }
+}
+
+// Adds which line is refused, and why.
+fn add_line(line: &mut Line, refused: &LineRefused)
+    requires { length line.old ≤ 20 }
+    ensures { line.new ≡ line.old ++ line_text refused.now }
+{
+    add_numbered(line, "line ", refused.line);
+    line.word(" ");
+    line.word(word_of_cause(refused.cause));
 }

@@ -6,7 +6,7 @@ use Rattle.std.specs.List.{All, AllByRecursion, IsDistinct, list_any, count_by}
 use Rattle.std.specs.List.Sorted.{IsPermutation}
 use Rattle.std.specs.Ordering.{nat_cmp}
 use Rattle.std.proofs.lemmas.Bool.{eqb-true, eq-eqb, ne_eqb, cases_lt}
-use Rattle.std.proofs.lemmas.List.Folds.{list_any_none, list_any_at, list_any-append}
+use Rattle.std.proofs.lemmas.List.Folds.{list_any_none, list_any-append}
 use Rattle.std.proofs.lemmas.List.FromFn.{length-range_with_len, get_or-range_with_len}
 use Rattle.std.proofs.lemmas.List.Sums.{sum_by-cons}
 use Rattle.std.proofs.lemmas.Map.Keys.{IsDistinct-head, IsDistinct-tail, IsDistinct-push, IsDistinct-from_apart}
@@ -14,14 +14,14 @@ use Rattle.std.proofs.lemmas.Map.Made.{length-le_from_is_member}
 use Rattle.esa_lists.specs.Tally.{times}
 use Rattle.esa_lists.proofs.OrderedLaws.{IsPermutation-from_counts}
 use Rattle.esa_params.specs.Sizes.{below}
+use Rattle.esa_coins.proofs.Found.{any_below}
 
 -- the number stands in the list
 abbrev pub stands_in : ℕ → List ℕ → Bool
 stands_in x xs = list_any (nat_eq x) xs
 
 pub stands_in-below : (n x : ℕ) → x < n → stands_in x (below n) ≡ true
-stands_in-below n x inside =
-    list_any_at (nat_eq x) (below n) x 0 (omega (arith, length-range_with_len 0 n)) (eq-eqb x _ (sym (get_or-range_with_len 0 n x 0 inside ∙ omega arith)))
+stands_in-below n x inside = any_below (nat_eq x) n x inside (eq-eqb x x refl)
 
 pub below-from_stands_in : (n x : ℕ) (xs : List ℕ) → All (λ y. y < n) xs → stands_in x xs ≡ true → x < n
 below-from_stands_in n x xs small stands =

@@ -1,20 +1,19 @@
 -- A permutation of the numbers below n names each of them.
-use Rattle.std.proofs.Common.{◌≡◌, ℕ, zero, suc, ◌+◌, ◌<◌, ◌≤◌, ◌==◌, ◌||◌, true, false, List, refl, sym, ◌∙◌, arith}
-use Rattle.std.specs.List.{list_any, range_with_len}
+use Rattle.std.proofs.Common.{◌≡◌, ℕ, ◌<◌, ◌==◌, Bool, true, List, get_or, refl, sym, ap, ◌∙◌, arith, zero-add}
+use Rattle.std.specs.List.{list_any}
 use Rattle.std.specs.List.Sorted.{IsPermutation}
-use Rattle.std.proofs.lemmas.Bool.{eqb-false}
+use Rattle.std.proofs.lemmas.Bool.{eq-eqb}
+use Rattle.std.proofs.lemmas.List.Folds.{list_any_at}
+use Rattle.std.proofs.lemmas.List.FromFn.{length-range_with_len, get_or-range_with_len}
 use Rattle.std.proofs.lemmas.List.Sorted.{list_any-IsPermutation}
 use Rattle.esa_params.specs.Sizes.{below}
 
-found_from : (a wanted x : ℕ) → a ≤ x → x < a + wanted → list_any (λ y. y == x) (range_with_len a wanted) ≡ true
-found_from a zero x low high = absurd (omega arith)
-found_from a (suc wanted) x low high =
-    elim (a == x)
-    as (λ same. (a == x) ≡ same → (same || list_any (λ y. y == x) (range_with_len (a + 1) wanted)) ≡ true)
-    [ true ↦ λ _. refl | false ↦ λ other. found_from (a + 1) wanted x (above (eqb-false a x other)) (omega arith) ] refl
-  where
-    above : (a ≡ x → ⊥) → a + 1 ≤ x
-    above apart = omega arith
+-- a number below n that passes is among those below n
+pub any_below : (test : ℕ → Bool) (n x : ℕ) → x < n → test x ≡ true → list_any test (below n) ≡ true
+any_below test n x inside passes =
+    let at : get_or (below n) x 0 ≡ x = get_or-range_with_len 0 n x 0 inside ∙ zero-add x in
+    list_any_at test (below n) x 0 (omega (arith, length-range_with_len 0 n)) (ap test at ∙ passes)
 
 pub found-permuted : (n x : ℕ) (order : List ℕ) → IsPermutation (below n) order → x < n → list_any (λ y. y == x) order ≡ true
-found-permuted n x order permutes inside = sym (list_any-IsPermutation (λ y. y == x) (below n) order permutes) ∙ found_from 0 n x (omega arith) (omega arith)
+found-permuted n x order permutes inside =
+    sym (list_any-IsPermutation (λ y. y == x) (below n) order permutes) ∙ any_below (λ y. y == x) n x inside (eq-eqb x x refl)

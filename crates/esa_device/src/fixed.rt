@@ -90,8 +90,12 @@ impl Device for FixedDevice {
     fn write(&mut self, slot: u32, bytes: &[u8]) -> Result<(), Failed>
         requires { HasBlock self.old.memory.plan slot (length bytes.now) }
         ensures ok { IsOk result }
-        ensures written { self.new ≡ record self.old { memory = record self.old.memory {
-            blocks = slice_set self.old.memory.blocks slot bytes.now; counts = called self.old.memory.counts Op.Write slot } } }
+        ensures written { self.new ≡ record self.old {
+          memory = record self.old.memory {
+            blocks = slice_set self.old.memory.blocks slot bytes.now;
+            counts = called self.old.memory.counts Op.Write slot;
+          };
+        } }
         ensures cause { HasCause self.old.memory.counts.faults self.new.memory.counts.faults ⊥ result }
     {
         self.memory.write(slot, bytes)

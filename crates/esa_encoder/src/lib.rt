@@ -5,7 +5,6 @@
 //! crate stands on `esa_bytes`, `esa_envelope`, `esa_line`, `esa_params`, `esa_report`, `hex` and `sha2`.
 #![tactic(auto)]
 
-mod count;
 mod head;
 mod nonces;
 mod report;
@@ -14,6 +13,5 @@ mod submission;
 #[cfg(test)]
 mod tests;
 
-pub use count::{MOST_LINES, line_count};
 pub use nonces::nonces_are_distinct;
 pub use submission::{EncodeRefused, Meta, encode, encode_line, encode_line_with};

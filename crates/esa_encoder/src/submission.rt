@@ -8,14 +8,16 @@ ghost use Rattle.esa_encoder.specs.declared.submission.EncodeRefused.TheVariants
 ghost use Rattle.esa_encoder.specs.Line.{head_of};
 ghost use Rattle.esa_encoder.specs.Encoded.{nonce_of, envelope_of, submission_of, submissions, line_refused, first_refused, encoded};
 
-use crate::count::{MOST_LINES, line_count};
 use crate::report::report_in;
 use crate::seal::{put_hex, seal_report};
 use esa_bytes::line_at;
 use esa_envelope::{Keys, Prepared, prepare};
-use esa_line::LineRefused;
+use esa_line::{LineRefused, line_count};
 use esa_params::Form;
 use std::alloc::{AllocError, Global};
+
+/// The most lines that are encoded at once.
+const MOST_LINES: u64 = 262_144;
 
 /// The length of the longest outer envelope, in bytes: that of form Two.
 const ENVELOPE: usize = 304;
