@@ -10,7 +10,7 @@ mod bytes;
 mod fits;
 mod write;
 
-pub use fits::attempts_fit;
+pub use fits::traces_fit;
 pub use write::write_trace;
 
 #[cfg(test)]
