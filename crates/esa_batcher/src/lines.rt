@@ -4,6 +4,7 @@ ghost use Rattle.std.specs.Prelude.{◌≡◌, ◌⊎◌, ◌+◌, ◌≤◌, Ok
 ghost use Rattle.esa_bytes.specs.Lines.{text_lines};
 ghost use Rattle.esa_batcher.specs.declared.batch.TheConstants.{MOST_RECORDS};
 ghost use Rattle.esa_batcher.specs.declared.refused.AddRefused.TheVariants as add;
+ghost use Rattle.esa_batcher.specs.Finishing.{envelopes_of};
 ghost use Rattle.esa_batcher.specs.Submitted.{joined_to, lines_in, submitted};
 
 use crate::batch::MOST_RECORDS;
@@ -45,6 +46,9 @@ pub fn gather(alloc: Global, form: Form, submissions: &[u8]) -> Result<Batcher, 
     ensures gathered { MatchResult result (λ batcher. submitted form submissions.now ≡ Ok batcher.list)
         (λ refused. (refused ≡ add.OutOfMemory) ⊎ (submitted form submissions.now ≡ Err refused)) }
     ensures form { IfOk result (λ batcher. batcher.form ≡ form) }
+
+    // Of each line nothing but its envelope is kept.
+    ensures envelopes { IfOk result (λ batcher. batcher.list ≡ envelopes_of form (text_lines submissions.now)) }
 {
     let count = line_count(submissions);
     if count > u64::from(MOST_RECORDS) {

@@ -8,7 +8,9 @@
 
 mod bare;
 mod coins;
+mod device;
 mod encode;
+mod forecast;
 mod forward;
 mod stash;
 mod turnstile;
@@ -31,9 +33,11 @@ fn main(rt: HostRuntime) -> Result<()> {
     let Some(module) = words.next() else {
         bare::small(&rt)?;
         coins::small(&rt)?;
+        device::write_and_read(&rt)?;
         stash::fill(&rt, 4_000, Then::Exchanges(2))?;
         encode::small(&rt, rt.alloc())?;
         vault::small(&rt)?;
+        forecast::small(&rt, rt.alloc())?;
         return turnstile::small(&rt, rt.alloc());
     };
     let size = number(words.next())?;
@@ -46,6 +50,15 @@ fn main(rt: HostRuntime) -> Result<()> {
         };
         return turnstile::measure(&rt, rt.alloc(), &load);
     }
+    if module.as_str() == "forecast" {
+        let load = forecast::Load {
+            shape: size,
+            attempts: number(words.next())?,
+            runs: number(words.next())?,
+            bare: number(words.next())?,
+        };
+        return forecast::measure(&rt, rt.alloc(), &load);
+    }
     if let Some(form) = form_of(module.as_str()) {
         let load = vault::Load {
             form,
@@ -54,6 +67,9 @@ fn main(rt: HostRuntime) -> Result<()> {
             times: small(number(words.next())?)?,
         };
         return vault::measure(&rt, &load);
+    }
+    if module.as_str() == "device" {
+        return device::write_and_read(&rt);
     }
     run(&rt, module.as_str(), size)
 }

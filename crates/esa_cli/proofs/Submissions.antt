@@ -7,7 +7,8 @@ use Rattle.esa_job.specs.Request.{Request}
 use Rattle.esa_cli.specs.declared.refusal.Refusal.{Refusal}
 use Rattle.esa_cli.specs.declared.source.Source.{Source}
 use Rattle.esa_cli.specs.declared.source.Source.TheVariants as source
-use Rattle.esa_cli.specs.Batching.{form_asked, epoch_asked, least_asked, batched, submissions_file}
+use Rattle.esa_cli.specs.Batching.{batched, submissions_file}
+use Rattle.esa_cli.specs.Asked.{number_of, form_asked}
 use Rattle.esa_cli.specs.Step.{missing, step_of}
 use Rattle.esa_cli.specs.Taking.{name_of}
 use Rattle.esa_cli.proofs.Exits.{MissesOnly, misses_file}
@@ -20,4 +21,4 @@ pub submissions_miss : (job : Request) → MissesOnly source.Input (submissions_
 unfolding submissions_file
 submissions_miss job =
     misses_file Batch source.Input (name_of job field.Input) _
-    (record { nothing = λ bytes other is. misses_none (batched (form_asked job) (epoch_asked job) (least_asked job) bytes) other is })
+    (record { nothing = λ bytes other is. misses_none (batched (form_asked job) (number_of job field.Epoch) (number_of job field.M) bytes) other is })

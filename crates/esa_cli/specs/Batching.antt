@@ -1,11 +1,10 @@
 -- What batch takes in, writes and prints.
-use Rattle.std.specs.Prelude.{◌≡◌, ℕ, ◌==◌, nat_lt, false, if◌then◌else◌, List, [], ◌∷◌, length, codes, unwrap_or, Result, Ok, Err}
+use Rattle.std.specs.Prelude.{◌≡◌, ℕ, nat_lt, false, if◌then◌else◌, List, [], ◌∷◌, length, codes, Result, Ok, Err}
 use Rattle.esa_params.specs.declared.form.Form.{Form}
-use Rattle.esa_params.specs.declared.form.Form.TheVariants.{One, Two}
 use Rattle.esa_outside.specs.Told.{line_of}
 use Rattle.esa_job.specs.declared.command.Command.TheVariants as command
 use Rattle.esa_job.specs.declared.field.JobField.TheVariants as field
-use Rattle.esa_job.specs.Request.{Request, number_at}
+use Rattle.esa_job.specs.Request.{Request}
 use Rattle.esa_batcher.specs.declared.refused.AddRefused.{AddRefused}
 use Rattle.esa_batcher.specs.declared.refused.AddRefused.TheVariants as add
 use Rattle.esa_batcher.specs.declared.refused.BatchRefused.{BatchRefused}
@@ -19,6 +18,7 @@ use Rattle.esa_cli.specs.declared.source.Source.TheVariants as source
 use Rattle.esa_cli.specs.declared.stop.Sink.TheVariants.{Output}
 use Rattle.esa_cli.specs.declared.stop.Stop.{Stop}
 use Rattle.esa_cli.specs.declared.stop.Stop.TheVariants.{Refused, Unread, OutOfMemory, Unwritten, Unprinted}
+use Rattle.esa_cli.specs.Asked.{number_of, form_asked}
 use Rattle.esa_cli.specs.Refusal.{IsOfInput, numbered}
 use Rattle.esa_cli.specs.Step.{Step, ◌>>=◌, accepted, step_of, Reads, file}
 use Rattle.esa_cli.specs.Taking.{name_of, job_file}
@@ -58,26 +58,13 @@ abbrev pub stop_of_batch : BatchRefused → Stop
 stop_of_batch batch.OutOfMemory = OutOfMemory
 stop_of_batch why = Refused (refusal.Batch why)
 
--- ---- what a job asks for
-
--- form One where the job doesn't say
-abbrev pub form_asked : Request → Form
-form_asked job = if unwrap_or (number_at job field.Form) 1 == 2 then Two else One
-
--- epoch 0 where the job doesn't say
-abbrev pub epoch_asked : Request → ℕ
-epoch_asked job = unwrap_or (number_at job field.Epoch) 0
-
-abbrev pub least_asked : Request → ℕ
-least_asked job = unwrap_or (number_at job field.M) 0
-
 -- ---- the steps
 
 -- the submissions of a job
 unfoldable pub submissions_file : Request → Reads → Step Batched
 submissions_file job read =
     file command.Batch source.Input (name_of job field.Input) read
-    >>= λ bytes. step_of (batched (form_asked job) (epoch_asked job) (least_asked job) bytes)
+    >>= λ bytes. step_of (batched (form_asked job) (number_of job field.Epoch) (number_of job field.M) bytes)
 
 -- with the job: its submissions
 abbrev pub gather_asked : Reads → Request → Step (Request × Batched)

@@ -10,11 +10,12 @@ ghost use Rattle.esa_outside.specs.Told.{HoldsFront};
 ghost use Rattle.esa_batcher.specs.Batched.{batch_bytes};
 ghost use Rattle.esa_cli.specs.Step.{reads_of};
 ghost use Rattle.esa_cli.specs.Judged.{Judged, Counted};
-ghost use Rattle.esa_cli.specs.Batching.{stop_of_add, stop_of_batch, batched, StopsBatching, form_asked, epoch_asked, submissions_file, gather_steps, batched_text, batch_work, batch_steps};
+ghost use Rattle.esa_cli.specs.Batching.{stop_of_add, stop_of_batch, batched, StopsBatching, submissions_file, gather_steps, batched_text, batch_work, batch_steps};
 ghost use Rattle.esa_cli.specs.Gathered.{gathered_as};
 ghost use Rattle.esa_cli.specs.Ends.{Does, Ends};
 ghost use Rattle.esa_cli.specs.Explains.{ending};
 
+use crate::asked::form_of;
 use crate::line::Line;
 use crate::printing::print_line;
 use crate::reading::read_file;
@@ -55,16 +56,6 @@ impl From<BatchRefused> for Stop {
             BatchRefused::OutOfMemory => Stop::OutOfMemory,
             refused => Stop::Refused(Refusal::Batch(refused)),
         }
-    }
-}
-
-/// The form that a job asks for.
-fn form_of(job: &Job) -> Form
-    ensures { result ≡ form_asked (request_of job.now) }
-{
-    match job.form() {
-        Some(form) => form,
-        None => Form::One,
     }
 }
 

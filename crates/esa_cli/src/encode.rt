@@ -5,7 +5,6 @@ ghost use Rattle.esa_lists.specs.Files.{Files};
 ghost use Rattle.esa_job.specs.declared.command.Command.TheVariants as command;
 ghost use Rattle.esa_job.specs.Seen.{request_of, Needs};
 ghost use Rattle.esa_encoder.specs.declared.submission.EncodeRefused.TheVariants as refusal;
-ghost use Rattle.esa_cli.specs.Asked.{form_asked};
 ghost use Rattle.esa_cli.specs.Step.{reads_of};
 ghost use Rattle.esa_cli.specs.Judged.{Judged, Counted};
 ghost use Rattle.esa_cli.specs.Encode.{stop_of_encode, sealing_keys, encoded_by, whole_job, reports_file, encoded_text, encode_work, encode_steps};
@@ -13,6 +12,7 @@ ghost use Rattle.esa_cli.specs.Encoding.{sealed_as, sealed_work};
 ghost use Rattle.esa_cli.specs.Ends.{Does, Ends};
 ghost use Rattle.esa_cli.specs.Explains.{ending};
 
+use crate::asked::form_of;
 use crate::line::Line;
 use crate::printing::print_line;
 use crate::reading::read_file;
@@ -54,16 +54,6 @@ impl From<EncodeRefused> for Stop {
             EncodeRefused::TooMany { n } => Stop::Refused(Refusal::Lines { n }),
             EncodeRefused::OutOfMemory => Stop::OutOfMemory,
         }
-    }
-}
-
-/// The form that a job asks for.
-fn form_of(job: &Job) -> Form
-    ensures { result ≡ form_asked (request_of job.now) }
-{
-    match job.form() {
-        Some(form) => form,
-        None => Form::One,
     }
 }
 

@@ -2,6 +2,7 @@
 #![tactic(auto)]
 
 mod analyse;
+mod asked;
 mod batch;
 mod call;
 mod encode;

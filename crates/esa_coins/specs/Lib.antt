@@ -11,3 +11,5 @@ pub mod Table
 pub mod Attempt
 pub mod TableCoins
 pub mod TableLaws
+pub mod AnyCoins
+pub mod AnyLaws

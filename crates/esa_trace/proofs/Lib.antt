@@ -1,1 +1,3 @@
 pub mod TraceLaws
+pub mod AttemptLaws
+pub mod NumberLaws

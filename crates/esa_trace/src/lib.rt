@@ -7,8 +7,10 @@
 #![tactic(auto)]
 
 mod bytes;
+mod fits;
 mod write;
 
+pub use fits::traces_fit;
 pub use write::write_trace;
 
 #[cfg(test)]

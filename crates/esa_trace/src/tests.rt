@@ -1,5 +1,7 @@
 //! Trace files whose bytes are known.
 
+ghost use Rattle.std.specs.Prelude.{◌<◌, All};
+
 use crate::write_trace;
 use esa_outside::{Failed, MemCabinet};
 use esa_params::{Access, Op, Region};
@@ -14,7 +16,9 @@ const TWO: [u8; 47] = [
 ];
 
 /// The write of block 0 of the input, and a read of output block 258 in attempt 3.
-fn two() -> [Access; 2] {
+fn two() -> [Access; 2]
+    ensures { All (λ access. access.attempt < 256) result }
+{
     let load = Access {
         op: Op::Write,
         region: Region::Input,

@@ -1,0 +1,8 @@
+use Rattle.std.proofs.Common.{◌≡◌, map}
+use Rattle.esa_params.specs.Sizes.{below}
+use Rattle.esa_spec.specs.Traces.{read_chunk}
+use Rattle.esa_model.specs.Recorded.{with_accesses}
+use Rattle.esa_model.proofs.compression.read_import.Given as goal
+
+abbrev pub invariant-loop-bucket : goal.invariant-loop-bucket
+invariant-loop-bucket l = l.trace ≡ with_accesses l.initial.trace (map (read_chunk l.plan l.attempt l.target) (below l.bucket))

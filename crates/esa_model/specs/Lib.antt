@@ -1,0 +1,12 @@
+pub mod Distributed
+pub mod Drafts
+pub mod Forecast
+pub mod Passed
+pub mod Ready
+pub mod Recorded
+pub mod Seats
+pub mod Stored
+pub mod StoredCoins
+pub mod Turns
+pub mod Walked
+pub mod Words
