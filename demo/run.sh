@@ -1,5 +1,6 @@
 #!/usr/bin/env bash
-# Builds esa and runs it on a forward file of 400 sealed reports that demo/make_forward.py made.
+# Builds esa and runs its commands: made up reports become submissions and a batch, and a forward file of 400 sealed
+# reports that demo/make_forward.py made becomes a database.
 set -eu
 demo=$(cd "$(dirname "$0")" && pwd)
 work=$(mktemp -d)
@@ -17,6 +18,22 @@ rm "$work/database"
 program="$demo/../crates/esa/out/esa"
 esa() { (cd "$work" && "$program" "$@"); }
 
+echo
+echo '$ esa gen gen.json'
+esa gen gen.json
+echo '   Each line of reports is a moment, a sender, a crowd and a value:'
+head -n 2 "$work/reports"
+echo
+echo '$ esa encode encode.json'
+esa encode encode.json
+echo '   Crowd and value are sealed now, in 352 hexadecimal digits a line:'
+head -n 1 "$work/submissions" | cut -c 1-72
+echo
+echo '$ esa batch batch.json'
+esa batch batch.json
+echo '   Moment and sender are gone, and the envelopes are in rising order, so nothing tells which came first:'
+head -c 11 "$work/batch" | od -An -tx1
+echo '   The shuffler, which makes a forward file of a batch, is not built yet. Here is one that was made apart.'
 echo
 echo '$ esa analyse analyse.json'
 esa analyse analyse.json

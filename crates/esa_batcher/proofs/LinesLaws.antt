@@ -1,6 +1,8 @@
 -- Lines whose envelopes are added one after another.
 use Rattle.std.proofs.Common.{◌≡◌, ℕ, ◌+◌, ◌<◌, true, cond, List, [], ◌∷◌, ◌++◌, length, Result, Ok, Err, refl, sym, ap, ◌∙◌, append_assoc, append-nil, length-append, arith}
 use Rattle.std.specs.Prelude.{nat_lt}
+use Rattle.std.specs.List.{cons_option}
+use Rattle.std.specs.Result.{result_ok}
 use Rattle.std.proofs.lemmas.Bool.Decides.{nat_tests}
 use Rattle.esa_params.specs.declared.form.Form.{Form}
 use Rattle.esa_line.specs.declared.refused.LineCause.{LineCause}
@@ -8,6 +10,7 @@ use Rattle.esa_batcher.specs.declared.batch.TheConstants.{MOST_RECORDS}
 use Rattle.esa_batcher.specs.declared.refused.AddRefused.{AddRefused}
 use Rattle.esa_batcher.specs.declared.refused.AddRefused.TheVariants.{Line, TooMany}
 use Rattle.esa_batcher.specs.Adding.{Gathered, envelope_in, added_by, added_in}
+use Rattle.esa_batcher.specs.Finishing.{envelopes_of}
 use Rattle.esa_batcher.specs.Submitted.{joined_to, envelope_first, lines_in}
 
 lines_none : (form : Form) (number : ℕ) → lines_in form number [] ≡ Ok []
@@ -83,3 +86,18 @@ joined_none (Err refused) = refl
 pub lines_end : (form : Form) (number : ℕ) (all : Result (List (List ℕ)) AddRefused) (list lines : List (List ℕ)) → lines ≡ [] → all ≡ joined_to list (lines_in form number lines) → all ≡ Ok list
 lines_end form number all list lines none so_far =
     so_far ∙ ap (λ ls. joined_to list (lines_in form number ls)) none ∙ ap (joined_to list) (lines_none form number) ∙ ap Ok (append-nil list)
+
+carried : (form : Form) (number : ℕ) (line : List ℕ) (lines envelopes : List (List ℕ)) (envelope : Result (List ℕ) LineCause) (later : Result (List (List ℕ)) AddRefused) → ((others : List (List ℕ)) → later ≡ Ok others → others ≡ envelopes_of form lines)
+    → envelope_first number envelope later ≡ Ok envelopes → envelopes ≡ cons_option (result_ok envelope) (envelopes_of form lines)
+carried form number line lines envelopes (Ok envelope) (Ok later) rest is =
+    let first : envelope ∷ later ≡ envelopes = cc in
+    sym first ∙ ap (λ others. envelope ∷ others) (rest later refl)
+carried form number line lines envelopes (Ok envelope) (Err refused) rest is = cc
+carried form number line lines envelopes (Err cause) later rest is = cc
+
+-- accepted lines carry these envelopes
+pub lines_carry : (form : Form) (number : ℕ) (lines envelopes : List (List ℕ)) → lines_in form number lines ≡ Ok envelopes → envelopes ≡ envelopes_of form lines
+lines_carry form number [] envelopes is = let none : Ok [] ≡ Ok envelopes = sym (lines_none form number) ∙ is in cc
+lines_carry form number (line ∷ lines) envelopes is =
+    carried form number line lines envelopes (envelope_in form line) (lines_in form (number + 1) lines) (λ others. lines_carry form (number + 1) lines others)
+    (sym (lines_more form number line lines) ∙ is)

@@ -4,13 +4,13 @@ ghost use Rattle.std.specs.Prelude.{◌≡◌, ◌⊎◌, ◌+◌, ◌≤◌, Ok
 ghost use Rattle.esa_bytes.specs.Lines.{text_lines};
 ghost use Rattle.esa_batcher.specs.declared.batch.TheConstants.{MOST_RECORDS};
 ghost use Rattle.esa_batcher.specs.declared.refused.AddRefused.TheVariants as add;
+ghost use Rattle.esa_batcher.specs.Finishing.{envelopes_of};
 ghost use Rattle.esa_batcher.specs.Submitted.{joined_to, lines_in, submitted};
 
 use crate::batch::MOST_RECORDS;
 use crate::batcher::Batcher;
 use crate::refused::AddRefused;
-use esa_bytes::line_at;
-use esa_line::line_count;
+use esa_line::{line_count, split_line};
 use esa_params::Form;
 use std::alloc::{AllocError, Global};
 
@@ -29,12 +29,12 @@ fn add_lines(batcher: &mut Batcher, submissions: &[u8]) -> Result<(), AddRefused
     ensures form { batcher.new.form ≡ batcher.old.form }
     ensures refused { IfErr result (λ refused. (refused ≡ add.OutOfMemory) ⊎ (lines_in batcher.old.form 1 (text_lines submissions.now) ≡ Err refused)) }
 {
-    let mut at = 0;
+    let mut rest = submissions;
     let mut number = 0;
-    while let Some(line) = line_at(submissions, at) {
+    while let Some((line, behind)) = split_line(rest) {
         number += 1;
-        batcher.add(&submissions[line.start..line.end], number)?;
-        at = line.next;
+        batcher.add(line, number)?;
+        rest = behind;
     }
     Ok(())
 }
@@ -45,6 +45,9 @@ pub fn gather(alloc: Global, form: Form, submissions: &[u8]) -> Result<Batcher, 
     ensures gathered { MatchResult result (λ batcher. submitted form submissions.now ≡ Ok batcher.list)
         (λ refused. (refused ≡ add.OutOfMemory) ⊎ (submitted form submissions.now ≡ Err refused)) }
     ensures form { IfOk result (λ batcher. batcher.form ≡ form) }
+
+    // Of each line nothing but its envelope is kept.
+    ensures envelopes { IfOk result (λ batcher. batcher.list ≡ envelopes_of form (text_lines submissions.now)) }
 {
     let count = line_count(submissions);
     if count > u64::from(MOST_RECORDS) {

@@ -142,6 +142,8 @@ pub fn scan_batch<K: Cabinet>(
     ensures scanned { (files : Files) (bytes : List ℕ) → K.told cabinet.old ≡ Some files → map.get files name.now ≡ Some bytes
         → (result ≡ Err refusal.Failed) ⊎ (result ≡ scan_in m bytes) }
 
+    ensures missing { (files : Files) → K.told cabinet.old ≡ Some files → map.get files name.now ≡ None → result ≡ Err refusal.Failed }
+
     // Where it is accepted, its records lie inside the file.
     ensures whole { IfOk result (λ scanned. Lacks (K.told cabinet.old) name.now (header_length scanned.form + scanned.count * envelope_length scanned.form) → ⊥) }
     ensures memory { result ≡ Err (refusal.Grammar OutOfMemory) → ⊥ }

@@ -8,6 +8,9 @@
 
 mod bare;
 mod coins;
+mod device;
+mod encode;
+mod forecast;
 mod forward;
 mod stash;
 mod turnstile;
@@ -15,6 +18,7 @@ mod vault;
 
 use anyhow::{Context, Result, bail};
 use coins::{Drawn, Reading};
+use encode::Call;
 use esa_coins::Draw;
 use esa_params::Form;
 use forward::Values;
@@ -29,8 +33,11 @@ fn main(rt: HostRuntime) -> Result<()> {
     let Some(module) = words.next() else {
         bare::small(&rt)?;
         coins::small(&rt)?;
+        device::write_and_read(&rt)?;
         stash::fill(&rt, 4_000, Then::Exchanges(2))?;
+        encode::small(&rt, rt.alloc())?;
         vault::small(&rt)?;
+        forecast::small(&rt, rt.alloc())?;
         return turnstile::small(&rt, rt.alloc());
     };
     let size = number(words.next())?;
@@ -43,6 +50,15 @@ fn main(rt: HostRuntime) -> Result<()> {
         };
         return turnstile::measure(&rt, rt.alloc(), &load);
     }
+    if module.as_str() == "forecast" {
+        let load = forecast::Load {
+            shape: size,
+            attempts: number(words.next())?,
+            runs: number(words.next())?,
+            bare: number(words.next())?,
+        };
+        return forecast::measure(&rt, rt.alloc(), &load);
+    }
     if let Some(form) = form_of(module.as_str()) {
         let load = vault::Load {
             form,
@@ -51,6 +67,9 @@ fn main(rt: HostRuntime) -> Result<()> {
             times: small(number(words.next())?)?,
         };
         return vault::measure(&rt, &load);
+    }
+    if module.as_str() == "device" {
+        return device::write_and_read(&rt);
     }
     run(&rt, module.as_str(), size)
 }
@@ -85,6 +104,8 @@ fn run<R: Print + Files + AllocGlobal>(rt: &R, module: &str, size: u64) -> Resul
     match module {
         "hash" => bare::hash(rt, size),
         "keystream" => bare::keystream(rt, size),
+        "digits-slice" => encode::digits(rt, rt.alloc(), Call::Slice, size),
+        "digits-text" => encode::digits(rt, rt.alloc(), Call::Text, size),
         "forward-seven" => forward::write(rt, Values::Seven, size),
         "forward-distinct" => forward::write(rt, Values::Distinct, size),
         "coins-single" => coins::draw(rt, Drawn::Coins, Draw::Single, size),

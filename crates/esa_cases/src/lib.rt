@@ -2,10 +2,16 @@
 #![tactic(auto)]
 
 #[cfg(test)]
+mod batches;
+#[cfg(test)]
 mod databases;
 #[cfg(test)]
 mod desk;
 #[cfg(test)]
+mod encoding;
+#[cfg(test)]
 mod faults;
+#[cfg(test)]
+mod generating;
 #[cfg(test)]
 mod refusals;

@@ -10,7 +10,7 @@ use Rattle.esa_job.specs.Keys.{Ring}
 use Rattle.esa_cli.specs.declared.source.Source.{Source}
 use Rattle.esa_cli.specs.declared.source.Source.TheVariants as source
 use Rattle.esa_cli.specs.Encode.{encode_refusal, encoded_by, sealed, reports_file}
-use Rattle.esa_cli.specs.Step.{◌>>=◌, accepted, refused, missing}
+use Rattle.esa_cli.specs.Step.{◌>>=◌, accepted, missing}
 use Rattle.esa_cli.specs.Taking.{name_of, read_step}
 use Rattle.esa_cli.proofs.Exits.{MissesOnly, misses_file}
 

@@ -8,7 +8,7 @@ use Rattle.esa_cli.specs.declared.refusal.Refusal.{Refusal}
 use Rattle.esa_cli.specs.declared.source.Source.{Source}
 use Rattle.esa_cli.specs.declared.source.Source.TheVariants as source
 use Rattle.esa_cli.specs.Batching.{batched, submissions_file}
-use Rattle.esa_cli.specs.Asked.{form_asked, number_of}
+use Rattle.esa_cli.specs.Asked.{number_of, form_asked}
 use Rattle.esa_cli.specs.Step.{missing, step_of}
 use Rattle.esa_cli.specs.Taking.{name_of}
 use Rattle.esa_cli.proofs.Exits.{MissesOnly, misses_file}

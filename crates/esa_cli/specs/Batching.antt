@@ -18,7 +18,7 @@ use Rattle.esa_cli.specs.declared.source.Source.TheVariants as source
 use Rattle.esa_cli.specs.declared.stop.Sink.TheVariants.{Output}
 use Rattle.esa_cli.specs.declared.stop.Stop.{Stop}
 use Rattle.esa_cli.specs.declared.stop.Stop.TheVariants.{Refused, Unread, OutOfMemory, Unwritten, Unprinted}
-use Rattle.esa_cli.specs.Asked.{form_asked, number_of}
+use Rattle.esa_cli.specs.Asked.{number_of, form_asked}
 use Rattle.esa_cli.specs.Refusal.{IsOfInput, numbered}
 use Rattle.esa_cli.specs.Step.{Step, ◌>>=◌, accepted, step_of, Reads, file}
 use Rattle.esa_cli.specs.Taking.{name_of, job_file}

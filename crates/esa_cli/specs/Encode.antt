@@ -1,5 +1,5 @@
 -- What encode takes in, writes and prints.
-use Rattle.std.specs.Prelude.{ℕ, false, is_some, if◌then◌else◌, List, [], ◌∷◌, length, codes, unwrap_or, Result, Ok, Err}
+use Rattle.std.specs.Prelude.{ℕ, false, is_some, if◌then◌else◌, List, [], ◌∷◌, length, codes, unwrap_or, Result}
 use Rattle.esa_bytes.specs.Lines.{text_lines}
 use Rattle.esa_outside.specs.Told.{line_of}
 use Rattle.esa_envelope.specs.declared.keys.Keys.{Keys}
@@ -22,9 +22,9 @@ use Rattle.esa_cli.specs.declared.stop.Stop.TheVariants.{Refused, OutOfMemory}
 use Rattle.esa_cli.specs.Analyse.{master_of}
 use Rattle.esa_cli.specs.Asked.{number_of, form_asked}
 use Rattle.esa_cli.specs.Refusal.{numbered}
-use Rattle.esa_cli.specs.Step.{Step, ◌>>=◌, accepted, refused, missing, Reads, file}
+use Rattle.esa_cli.specs.Step.{Step, ◌>>=◌, accepted, refused, Reads, file}
 use Rattle.esa_cli.specs.Taking.{name_of, read_step, job_file, keys_file}
-use Rattle.esa_cli.specs.Work.{Work, Write}
+use Rattle.esa_cli.specs.Work.{Work}
 
 -- ---- the submissions of reports
 

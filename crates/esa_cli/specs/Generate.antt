@@ -7,9 +7,9 @@ use Rattle.esa_job.specs.Request.{Request}
 use Rattle.esa_cli.specs.declared.stop.Sink.TheVariants.{Output}
 use Rattle.esa_cli.specs.Asked.{number_of}
 use Rattle.esa_cli.specs.Refusal.{numbered}
-use Rattle.esa_cli.specs.Step.{Step, ◌>>=◌, accepted, refused, missing, Reads}
+use Rattle.esa_cli.specs.Step.{Step, ◌>>=◌, accepted, Reads}
 use Rattle.esa_cli.specs.Taking.{name_of, job_file}
-use Rattle.esa_cli.specs.Work.{Work, Write}
+use Rattle.esa_cli.specs.Work.{Work}
 
 -- the states of the generator: that before the first report is given
 abbrev pub next_state : ℕ → ℕ

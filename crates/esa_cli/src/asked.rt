@@ -1,4 +1,4 @@
-//! What a job asks for, where it need not say.
+//! What a job asks for, where it may leave that out.
 
 ghost use Rattle.std.specs.Prelude.{◌≡◌};
 ghost use Rattle.esa_job.specs.Seen.{request_of};

@@ -4,9 +4,8 @@
 //! a seed by ChaCha20, each target by itself or all of a bucket together, among separators: by the definitions of the
 //! kit's `rand` and `rand_chacha`, so that another program over the same crates draws the same numbers. `TableCoins`
 //! reads them from a JSON file, which `serde_json` and `esa_json` define: it accepts exactly the files with such lists,
-//! and refuses the others at their first bad place. `AnyCoins` are
-//! coins of either kind, as a job asks for. The crate gives out the trait `Coins` of `esa_spec` and the `Draw` of
-//! `esa_job` again.
+//! and refuses the others at their first bad place. `AnyCoins` are coins of either kind, as a job asks for. The crate
+//! gives out the trait `Coins` of `esa_spec` and the `Draw` of `esa_job` again.
 #![tactic(auto)]
 
 mod any;

@@ -2,6 +2,7 @@ pub mod AttemptLemmas
 pub mod CountLemmas
 pub mod ForetellLemmas
 pub mod LineLemmas
+pub mod ReadBack
 pub mod SeatLemmas
 pub mod SpreadLemmas
 pub mod StandLemmas

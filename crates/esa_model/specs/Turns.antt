@@ -1,8 +1,8 @@
 -- The lists of turns that a turns file says.
-use Rattle.std.specs.Prelude.{ℕ, ◌+◌, ◌<◌, List, [], ◌∷◌, All, Option, Some, None, if◌then◌else◌, Result, Ok, Err}
+use Rattle.std.specs.Prelude.{ℕ, ◌+◌, ◌<◌, List, [], ◌∷◌, All, Option, Some, None, if◌then◌else◌, Result, Ok, Err, ◌≤◌, length}
 use Rattle.std.specs.Option.{option_map_or}
 use Rattle.esa_bytes.specs.Lines.{text_lines}
-use Rattle.esa_model.specs.Drafts.{Begun, none_begun, lists_of, with_word, can_come}
+use Rattle.esa_model.specs.Drafts.{Begun, none_begun, lists_of, turns_in, with_word, can_come}
 use Rattle.esa_model.specs.Words.{word_in}
 use Rattle.esa_model.specs.declared.word.Word.{Word}
 use Rattle.esa_model.specs.declared.turns.TurnsRefused.{TurnsRefused}
@@ -31,3 +31,10 @@ AreWorkers workers lists = All (λ list. All (λ worker. worker < workers) list)
 pub record AreBegun (workers : ℕ) (begun : Begun) : Type 0 where
   pub ended : AreWorkers workers begun.ended
   pub list : All (λ worker. worker < workers) begun.list
+
+-- lists that a turns file can say: one at least, no more than attempts, and few turns of workers
+pub record CanRead (w a : ℕ) (hs : List (List ℕ)) : Type 0 where
+  pub some : 1 ≤ length hs
+  pub lists : length hs ≤ a
+  pub turns : turns_in hs ≤ 4194304
+  pub workers : AreWorkers w hs

@@ -2,7 +2,8 @@
 
 ghost use Rattle.std.specs.Prelude.{◌≡◌, ◌≤◌, ◌⊎◌, [], List, ℕ, length, map, slice_index_or, MatchResult, IfOk, IsTrue, ◌↔◌, Ok, Err};
 ghost use Rattle.esa_model.specs.Drafts.{items_of, turns_in};
-ghost use Rattle.esa_model.specs.Turns.{turns_of, AreWorkers};
+ghost use Rattle.esa_model.specs.Turns.{turns_of, AreWorkers, CanRead};
+ghost use Rattle.esa_spec.specs.Files.{turns_bytes};
 
 use crate::draft::Draft;
 use crate::word::word_of;
@@ -61,8 +62,26 @@ impl Turns {
 
     /// Reads the lists of a turns file, for so many workers and attempts. Each line is the number of a worker in
     /// decimal, or the word `next`, which ends a list and begins the next one.
-    #[tactic(auto, using(crate::proofs::TurnLemmas::begun_with_word, crate::proofs::TurnLemmas::workers_begun, crate::proofs::TurnLemmas::none_begun_workers))]
     pub fn read(
+        alloc: Global,
+        bytes: &[u8],
+        workers: u32,
+        attempts: u32,
+    ) -> Result<Turns, TurnsRefused>
+        ensures first_refusal { MatchResult result (λ turns. turns_of workers attempts bytes.now ≡ Ok turns)
+            (λ refused. (refused ≡ TurnsRefused.OutOfMemory) ⊎ (turns_of workers attempts bytes.now ≡ Err refused)) }
+        ensures workers { IfOk result (AreWorkers workers) }
+
+        // The file of any lists that a file can say is read back as these lists, but for want of memory.
+        ensures reads_back { (lists : List (List ℕ)) → CanRead workers attempts lists → bytes.now ≡ turns_bytes lists
+            → MatchResult result (λ turns. turns ≡ lists) (λ refused. refused ≡ TurnsRefused.OutOfMemory) }
+    {
+        Turns::read_lines(alloc, bytes, workers, attempts)
+    }
+
+    // Reads the lists of a turns file line by line.
+    #[tactic(auto, using(crate::proofs::TurnLemmas::begun_with_word, crate::proofs::TurnLemmas::workers_begun, crate::proofs::TurnLemmas::none_begun_workers))]
+    fn read_lines(
         alloc: Global,
         bytes: &[u8],
         workers: u32,

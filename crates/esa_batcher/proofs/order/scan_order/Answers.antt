@@ -1,4 +1,4 @@
-use Rattle.std.proofs.Common.{◌/◌, ◌≤◌, length, arith, sym, ◌∙◌}
+use Rattle.std.proofs.Common.{◌/◌, ◌≤◌, length, arith, ◌∙◌}
 use Rattle.esa_batcher.proofs.OrderLaws.{order_further, order_found, order_last, room_two}
 use Rattle.esa_batcher.proofs.order.scan_order.Goals as goal
 

@@ -1,7 +1,7 @@
 use Rattle.std.proofs.Common.{◌≡◌, ◌≤◌, length, drop, ◌+◌, ◌-◌}
 use Rattle.esa_bytes.specs.Lines.{text_lines}
 use Rattle.esa_model.specs.Turns.{turns_of, read_from, AreBegun}
-use Rattle.esa_model.proofs.turns.Turns.read.Given as goal
+use Rattle.esa_model.proofs.turns.Turns.read_lines.Given as goal
 
 abbrev pub invariant-loop-line : goal.invariant-loop-line
 invariant-loop-line l = record {
