@@ -14,4 +14,6 @@ mod faults;
 #[cfg(test)]
 mod generating;
 #[cfg(test)]
+mod planning;
+#[cfg(test)]
 mod refusals;
