@@ -10,8 +10,7 @@ ghost use Rattle.esa_batcher.specs.Submitted.{joined_to, lines_in, submitted};
 use crate::batch::MOST_RECORDS;
 use crate::batcher::Batcher;
 use crate::refused::AddRefused;
-use esa_bytes::line_at;
-use esa_line::line_count;
+use esa_line::{line_count, split_line};
 use esa_params::Form;
 use std::alloc::{AllocError, Global};
 
@@ -30,12 +29,12 @@ fn add_lines(batcher: &mut Batcher, submissions: &[u8]) -> Result<(), AddRefused
     ensures form { batcher.new.form ≡ batcher.old.form }
     ensures refused { IfErr result (λ refused. (refused ≡ add.OutOfMemory) ⊎ (lines_in batcher.old.form 1 (text_lines submissions.now) ≡ Err refused)) }
 {
-    let mut at = 0;
+    let mut rest = submissions;
     let mut number = 0;
-    while let Some(line) = line_at(submissions, at) {
+    while let Some((line, behind)) = split_line(rest) {
         number += 1;
-        batcher.add(&submissions[line.start..line.end], number)?;
-        at = line.next;
+        batcher.add(line, number)?;
+        rest = behind;
     }
     Ok(())
 }

@@ -1,13 +1,13 @@
 //! The front of a line that says who sent what and when, and why a line is refused.
 //!
 //! Lines of reports and lines of submissions begin alike: a moment, a tab, a sender, a tab. A line is
-//! refused for its first cause. The crate takes no memory. It stands on `esa_bytes`.
+//! refused for its first cause. The crate takes no memory. It stands on `esa_bytes` and `memchr`.
 #![tactic(auto)]
 
-mod count;
 mod front;
+mod lines;
 mod refused;
 
-pub use count::line_count;
 pub use front::{check_front, split_tab};
+pub use lines::{line_count, split_line};
 pub use refused::{LineCause, LineRefused};

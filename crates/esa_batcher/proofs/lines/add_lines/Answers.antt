@@ -16,13 +16,11 @@ returns-in_err-add-clause-refused c =
 pub loop-line-preserved : goal.loop-line-preserved
 loop-line-preserved c =
     let i = c.loop-line.invariant in
-    let place = c.in-Some.ensures.place in
     let few : length c.loop-line.batcher.list < MOST_RECORDS = omega (arith, i.room, ap length c.in-Some.ensures.lines) in
     let added = c.in_ok-add.ensures.added in
     let longer = longer_by_one c.args.batcher.now.form c.loop-line.number _ c.loop-line.batcher _ _ _ i.form c.in-Some.ensures.lines i.lines few c.add.new.self added in
     record {
-      inside = omega (arith, place.forward);
-      few = omega (arith, place.forward, i.few);
+      few = omega (arith, i.few, c.in-Some.ensures.shorter);
       form = form_kept c.args.batcher.now.form c.loop-line.number _ c.loop-line.batcher _ _ _ i.form c.in-Some.ensures.lines i.lines few c.add.new.self added;
       room = omega (arith, i.room, ap length c.in-Some.ensures.lines, longer);
       lines = line_added c.args.batcher.now.form c.loop-line.number _ c.loop-line.batcher _ _ _ i.form c.in-Some.ensures.lines i.lines few c.add.new.self added;

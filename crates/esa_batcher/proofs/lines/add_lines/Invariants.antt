@@ -1,4 +1,4 @@
-use Rattle.std.proofs.Common.{◌≡◌, length, drop, ◌+◌, ◌-◌, ◌≤◌}
+use Rattle.std.proofs.Common.{◌≡◌, length, ◌+◌, ◌≤◌}
 use Rattle.esa_bytes.specs.Lines.{text_lines}
 use Rattle.esa_batcher.specs.declared.batch.TheConstants.{MOST_RECORDS}
 use Rattle.esa_batcher.specs.Submitted.{joined_to, lines_in}
@@ -6,13 +6,12 @@ use Rattle.esa_batcher.proofs.lines.add_lines.Given as goal
 
 abbrev pub invariant-loop-line : goal.invariant-loop-line
 invariant-loop-line l = record {
-  inside : l.at ≤ length l.submissions;
-  few : l.number ≤ l.at;
+  few : l.number + length l.rest ≤ length l.submissions;
   form : l.batcher.form ≡ l.initial.batcher.form;
-  room : length l.batcher.list + length (text_lines (drop l.at l.submissions)) ≤ MOST_RECORDS;
+  room : length l.batcher.list + length (text_lines l.rest) ≤ MOST_RECORDS;
   lines : joined_to l.initial.batcher.list (lines_in l.initial.batcher.form 1 (text_lines l.submissions))
-      ≡ joined_to l.batcher.list (lines_in l.initial.batcher.form (l.number + 1) (text_lines (drop l.at l.submissions)));
+      ≡ joined_to l.batcher.list (lines_in l.initial.batcher.form (l.number + 1) (text_lines l.rest));
 }
 
 abbrev pub decreases-loop-line : goal.decreases-loop-line
-decreases-loop-line l = length l.submissions - l.at
+decreases-loop-line l = length l.rest
