@@ -1,8 +1,10 @@
 //! What a shuffle will do, by numbers alone: the turns that are handed in for it, and the forecast of its accesses and
 //! of how its attempts end.
 //!
-//! `Turns` is read from a turns file, with the exact first line that is refused. It stands on the definitions of
-//! `esa_spec` and their laws, and takes no record anywhere.
+//! `Turns::read` gives exactly the lists of a turns file, or the first line that is refused. `Predictor::run` gives
+//! exactly the verdicts and the accesses of the definitions of `esa_spec`, over any coins, and takes no memory. The crate
+//! stands on those definitions, on their laws in `esa_laws`, and on the sizes of `esa_params`; it takes no record
+//! anywhere. It gives out `Event` and `Verdict` again.
 #![tactic(auto)]
 
 mod attempt;
