@@ -7,6 +7,7 @@
 #![tactic(auto)]
 
 mod bare;
+mod batch;
 mod coins;
 mod device;
 mod encode;
@@ -106,6 +107,8 @@ fn run<R: Print + Files + AllocGlobal>(rt: &R, module: &str, size: u64) -> Resul
         "keystream" => bare::keystream(rt, size),
         "digits-slice" => encode::digits(rt, rt.alloc(), Call::Slice, size),
         "digits-text" => encode::digits(rt, rt.alloc(), Call::Text, size),
+        "submissions" => batch::write(rt, size),
+        "decode-and-sort" => batch::bare(rt),
         "forward-seven" => forward::write(rt, Values::Seven, size),
         "forward-distinct" => forward::write(rt, Values::Distinct, size),
         "coins-single" => coins::draw(rt, Drawn::Coins, Draw::Single, size),
