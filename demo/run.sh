@@ -33,7 +33,16 @@ echo '$ esa batch batch.json'
 esa batch batch.json
 echo '   Moment and sender are gone, and the envelopes are in rising order, so nothing tells which came first:'
 head -c 11 "$work/batch" | od -An -tx1
-echo '   The shuffler, which makes a forward file of a batch, is not built yet. Here is one that was made apart.'
+echo
+echo '$ esa plan plan.json'
+esa plan plan.json
+echo '   So a shuffle of these 2,000 records would do; it would touch the external memory so often.'
+echo
+echo '$ esa plan plan_tight.json'
+esa plan plan_tight.json
+echo '   The same with a stash and a queue that are too small: each attempt says what failed. docs/SIZING.md tells more.'
+echo
+echo '   The shuffler itself, which makes a forward file of a batch, is not built yet. Here is one that was made apart.'
 echo
 echo '$ esa analyse analyse.json'
 esa analyse analyse.json

@@ -178,6 +178,28 @@ fn damaged_batches(rt: HostRuntime) -> Result<(), Fail> {
     expect_refused(&rt, alloc, &longer, 1, BatchRefused::Trailing)
 }
 
+/// A batch of four envelopes, cut at each place.
+#[test]
+fn each_front(rt: HostRuntime) -> Result<(), Fail> {
+    let alloc = rt.alloc();
+    let file = file_of(alloc, &[1, 2, 2, 3])?;
+    for have in 0..715u16 {
+        let want = if have < 11 { 11 } else { 715 };
+        let cut = Cut {
+            want,
+            have: u64::from(have),
+        };
+        expect_refused(
+            &rt,
+            alloc,
+            file.get(..usize::from(have)).unwrap_or_default(),
+            1,
+            BatchRefused::Cut(cut),
+        )?;
+    }
+    Ok(())
+}
+
 /// A file of no envelopes, cut at each place; headers with another magic, version, size and count.
 #[test]
 fn each_prefix(rt: HostRuntime) -> Result<(), Fail> {

@@ -182,3 +182,16 @@ fn nested_values(rt: HostRuntime) -> Result<(), Fail> {
     }
     Ok(())
 }
+
+#[test]
+fn deep_and_huge(rt: HostRuntime) -> Result<(), Fail> {
+    let alloc = rt.alloc();
+    let mut desk = Desk::make(alloc, &[], &[])?;
+    let text = nested(alloc, "{\"more\":", 200)?;
+    desk.cabinet.put("job.json", &text)?;
+    let status = desk.run(&["batch", "job.json"])?;
+    assert_eq!(rt; status.code(), 3);
+    let line = b"refused: job job\n".as_slice();
+    assert_eq!(rt; desk.printer.printed(), line);
+    Ok(())
+}
