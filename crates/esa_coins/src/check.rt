@@ -1,6 +1,7 @@
 //! Whether coins keep what they promise, by looking.
 
-ghost use Rattle.std.specs.Prelude.{◌≡◌, ◌+◌, ◌-◌, ◌*◌, ◌^◌, ◌<◌, ◌≤◌, ◌↔◌, true, length, All, IsTrue, IsPermutation};
+ghost use Rattle.std.specs.Prelude.{◌≡◌, ◌+◌, ◌-◌, ◌*◌, ◌^◌, ◌<◌, ◌≤◌, ◌==◌, ◌↔◌, true, length, All, IsTrue, IsPermutation};
+ghost use Rattle.std.specs.List.{list_all, list_any};
 ghost use Rattle.esa_params.specs.Sizes.{size, below};
 
 use esa_params::Plan;
@@ -76,12 +77,7 @@ fn are_same(first: &[u32], second: &[u32]) -> bool
 
 // Whether each number below `places` is there.
 fn names_each(order: &[u32], places: u32) -> bool
-    ensures { IsPermutation (below places) order.now → result ≡ true }
+    ensures { result ≡ list_all (λ number. list_any (λ other. other == number) order.now) (below places) }
 {
-    for number in 0..places {
-        if !order.contains(&number) {
-            return false;
-        }
-    }
-    true
+    (0..places).all(|number| order.contains(&number))
 }
