@@ -15,6 +15,13 @@ const ENCODE: &[u8] =
 
 const BATCH: &[u8] = b"{\"input\":\"submissions\",\"output\":\"batch\",\"m\":1}";
 
+/// The same in form Two, under the epoch 7.
+const ENCODE_TWO: &[u8] =
+    b"{\"keys\":\"keys.json\",\"input\":\"input\",\"output\":\"submissions\",\"nonce_base\":0,\"form\":2,\"epoch\":7}";
+
+const BATCH_TWO: &[u8] =
+    b"{\"input\":\"submissions\",\"output\":\"batch\",\"m\":1,\"form\":2,\"epoch\":7}";
+
 /// A submission line whose envelope has two digits, so often, without its newline.
 fn line_of(alloc: Global, front: &[u8], digits: &[u8; 2], count: usize) -> Result<Vec<u8>, Fail> {
     let mut line = Vec::from_slice(alloc, front)?;
@@ -77,6 +84,29 @@ fn encode_then_batch(rt: HostRuntime) -> Result<(), Fail> {
     let file = desk.cabinet.file("batch").unwrap_or_default();
     let front = b"ESAB\x01\0\0\0\x01\0\xb0\0\0\0\0\0\0\0\x01";
     assert_eq!(rt; (file.len(), file.starts_with(front)), (187, true));
+    Ok(())
+}
+
+/// Four reports of one crowd, encoded and batched in form Two under the epoch 7.
+#[test]
+fn form_two_run(rt: HostRuntime) -> Result<(), Fail> {
+    let mut desk = Desk::make(rt.alloc(), &[], &[])?;
+    desk.cabinet.put("keys.json", MASTERS)?;
+    desk.cabinet.put(
+        "input",
+        b"1\tann\tabc\ta\n2\tann\tabc\tb\n3\tann\tabc\tc\n4\tann\tabc\td\n",
+    )?;
+    desk.cabinet.put("encode.json", ENCODE_TWO)?;
+    desk.cabinet.put("batch.json", BATCH_TWO)?;
+    let _ = desk.run(&["encode", "encode.json"])?;
+    let _ = desk.run(&["batch", "batch.json"])?;
+    assert_eq!(rt;
+        desk.printer.printed(),
+        b"encoded 4\nbatched 4\n".as_slice()
+    );
+    let file = desk.cabinet.file("batch").unwrap_or_default();
+    let front = b"ESAB\x02\0\0\0\x04\x01\x30\0\0\0\x07";
+    assert_eq!(rt; (file.len(), file.starts_with(front)), (1231, true));
     Ok(())
 }
 

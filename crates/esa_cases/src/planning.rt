@@ -3,14 +3,18 @@
 use crate::desk::Desk;
 use esa_bytes::hex_into;
 use esa_cli::Status;
+use esa_outside::Role;
+use std::alloc::Global;
+use std::process::Abort;
 use std::test::Fail;
 
-/// A plan: its job, its coins and its turns, and what it prints.
+/// A plan: its job, its coins and its turns, what it prints, and the status's code.
 struct Case {
     job: &'static str,
     coins: &'static str,
     turns: &'static str,
     lines: &'static str,
+    code: u8,
 }
 
 const CASES: [Case; 15] = [
@@ -20,6 +24,7 @@ const CASES: [Case; 15] = [
         coins: "{\"attempts\":[{\"targets\":[0,0,1,0],\"orders\":[[0,1,2],[0,1,2]]}]}",
         turns: "",
         lines: "attempt 0 good\naccesses 22\n",
+        code: 0,
     },
     // stash_exactly_full
     Case {
@@ -27,6 +32,7 @@ const CASES: [Case; 15] = [
         coins: "{\"attempts\":[{\"targets\":[0,0,1,0],\"orders\":[[0,1,2],[0,1,2]]}]}",
         turns: "",
         lines: "attempt 0 good\naccesses 22\n",
+        code: 0,
     },
     // plan_stash_zero
     Case {
@@ -34,6 +40,7 @@ const CASES: [Case; 15] = [
         coins: "{\"attempts\":[{\"targets\":[0,0,1,0],\"orders\":[[0,1,2],[0,1,2]]}]}",
         turns: "",
         lines: "attempt 0 stash-overflow 0\naccesses 3\n",
+        code: 0,
     },
     // tail_zero
     Case {
@@ -41,6 +48,7 @@ const CASES: [Case; 15] = [
         coins: "{\"attempts\":[{\"targets\":[0,0,1,0],\"orders\":[[0,1],[0,1]]}]}",
         turns: "",
         lines: "attempt 0 stash-left 0\naccesses 8\n",
+        code: 0,
     },
     // plan_queue_starved
     Case {
@@ -48,6 +56,7 @@ const CASES: [Case; 15] = [
         coins: "{\"attempts\":[{\"targets\":[1,1,1,1],\"orders\":[[0,1,2,3],[0,1,2,3]]}]}",
         turns: "",
         lines: "attempt 0 queue-starved 0\naccesses 13\n",
+        code: 0,
     },
     // queue_overflow
     Case {
@@ -55,6 +64,7 @@ const CASES: [Case; 15] = [
         coins: "{\"attempts\":[{\"targets\":[0,0,0,0],\"orders\":[[0,1,2,3],[0,1,2,3]]}]}",
         turns: "",
         lines: "attempt 0 queue-overflow 0\naccesses 13\n",
+        code: 0,
     },
     // empty_buckets
     Case {
@@ -62,6 +72,7 @@ const CASES: [Case; 15] = [
         coins: "{\"attempts\":[{\"targets\":[3],\"orders\":[[0,1,2,3],[0,1,2,3],[0,1,2,3],[0,1,2,3]]}]}",
         turns: "",
         lines: "attempt 0 good\naccesses 60\n",
+        code: 0,
     },
     // second_attempt
     Case {
@@ -69,6 +80,7 @@ const CASES: [Case; 15] = [
         coins: "{\"attempts\":[{\"targets\":[0,0,1,0],\"orders\":[[0,1,2],[0,1,2]]},{\"targets\":[0,1,0,1],\"orders\":[[0,1,2],[0,1,2]]}]}",
         turns: "",
         lines: "attempt 0 stash-overflow 0\nattempt 1 good\naccesses 23\n",
+        code: 0,
     },
     // two_workers
     Case {
@@ -76,6 +88,7 @@ const CASES: [Case; 15] = [
         coins: "{\"attempts\":[{\"targets\":[0,0,1,0],\"orders\":[[0,1,2],[0,1,2]]}]}",
         turns: "0\n1\n1\n1\n",
         lines: "attempt 0 good\naccesses 22\n",
+        code: 0,
     },
     // separators_one_bucket
     Case {
@@ -83,6 +96,7 @@ const CASES: [Case; 15] = [
         coins: "",
         turns: "",
         lines: "attempt 0 good\naccesses 9\n",
+        code: 0,
     },
     // turns_files
     Case {
@@ -90,6 +104,7 @@ const CASES: [Case; 15] = [
         coins: "{\"attempts\":[{\"targets\":[0,0,1,0],\"orders\":[[0,1,2],[0,1,2]]}]}",
         turns: "2\n",
         lines: "refused: turns 1\n",
+        code: 3,
     },
     // the coins of first_refusals
     Case {
@@ -97,6 +112,7 @@ const CASES: [Case; 15] = [
         coins: "{\"attempts\":[{\"targets\":[0,0,1,0],\"orders\":[[0,0,1],[0,1,2]]}]}",
         turns: "",
         lines: "refused: coins order 0 0\n",
+        code: 3,
     },
     // coins with a target too large
     Case {
@@ -104,6 +120,7 @@ const CASES: [Case; 15] = [
         coins: "{\"attempts\":[{\"targets\":[0,0,2,0],\"orders\":[[0,1,2],[0,1,2]]}]}",
         turns: "",
         lines: "refused: coins target 0 2\n",
+        code: 3,
     },
     // workers that run
     Case {
@@ -111,6 +128,7 @@ const CASES: [Case; 15] = [
         coins: "{\"attempts\":[{\"targets\":[0,0,1,0],\"orders\":[[0,1,2],[0,1,2]]}]}",
         turns: "",
         lines: "refused: job mode\n",
+        code: 3,
     },
     // turns before coins
     Case {
@@ -118,6 +136,7 @@ const CASES: [Case; 15] = [
         coins: "7",
         turns: "1\n",
         lines: "refused: turns 1\n",
+        code: 3,
     },
 ];
 
@@ -228,4 +247,32 @@ fn form_two_sizes(rt: HostRuntime) -> Result<(), Fail> {
     assert_eq!(rt; status, Status::Ok);
     assert_eq!(rt; desk.cabinet.file("trace"), Some(trace.as_slice()));
     Ok(())
+}
+
+/// Runs the first plan where calls fail, and checks what is left of its trace.
+fn expect_fault(
+    rt: &impl Abort,
+    alloc: Global,
+    fails: &[u64],
+    lines_fail: &[u64],
+    role: Role,
+    trace: Option<&[u8]>,
+) -> Result<(), Fail> {
+    let mut desk = Desk::make(alloc, fails, lines_fail)?;
+    desk.cabinet.put("job.json", TRACED.as_bytes())?;
+    desk.cabinet.put("coins", COINS.as_bytes())?;
+    let status = desk.run(&["plan", "job.json"])?;
+    assert_eq!(rt; status, Status::OutsideFault(role));
+    assert_eq!(rt; desk.cabinet.file("trace"), trace);
+    Ok(())
+}
+
+/// Two calls read the job and two the coins, the fifth starts the trace, and the sixth adds to it.
+#[test]
+fn plan_faults(rt: HostRuntime) -> Result<(), Fail> {
+    let alloc = rt.alloc();
+    expect_fault(&rt, alloc, &[1], &[], Role::Job, None)?;
+    expect_fault(&rt, alloc, &[3], &[], Role::Coins, None)?;
+    expect_fault(&rt, alloc, &[5], &[], Role::Trace, None)?;
+    expect_fault(&rt, alloc, &[6], &[], Role::Trace, Some(b"".as_slice()))
 }

@@ -331,18 +331,22 @@ fn drops(rt: HostRuntime) -> Result<(), Fail> {
     Ok(())
 }
 
-#[test]
-fn first_refusals(rt: HostRuntime) -> Result<(), Fail> {
-    let run = row_of(NEEDED, "run");
-    let no_b = text_of(rt.alloc(), run, 4, "")?;
-    let small_w = text_of(rt.alloc(), run, 99, "\"b\": 2, \"w\": 3")?;
+// The job and the keys of a command, each with something wrong.
+fn expect_first_refusals(
+    rt: &impl Abort,
+    alloc: Global,
+    command: Command,
+    row: &str,
+) -> Result<(), Fail> {
+    let no_b = text_of(alloc, row, 4, "")?;
+    let small_w = text_of(alloc, row, 99, "\"b\": 2, \"w\": 3")?;
     for (text, wanted) in [
         ("[]", "job"),
         ("", "job"),
         (no_b.as_str(), "b"),
         (small_w.as_str(), "Params(W)"),
     ] {
-        let found = answer(rt.alloc(), Command::Run, true, text)?;
+        let found = answer(alloc, command, true, text)?;
         assert_eq!(rt; found.as_str(), wanted);
     }
     let keys = [
@@ -351,10 +355,16 @@ fn first_refusals(rt: HostRuntime) -> Result<(), Fail> {
         (KeyField::Drop, 64),
         (KeyField::Run, 63),
     ];
-    let text = keys_text(rt.alloc(), &keys)?;
-    let found = keys_refusal(rt.alloc(), Command::Run, false, text.as_bytes());
+    let text = keys_text(alloc, &keys)?;
+    let found = keys_refusal(alloc, command, false, text.as_bytes());
     assert_eq!(rt; found, Some(KeysRefused::Field(KeyField::Run)));
     Ok(())
+}
+
+#[test]
+fn first_refusals(rt: HostRuntime) -> Result<(), Fail> {
+    expect_first_refusals(&rt, rt.alloc(), Command::Run, row_of(NEEDED, "run"))?;
+    expect_first_refusals(&rt, rt.alloc(), Command::Shuffle, row_of(NEEDED, "shuffle"))
 }
 
 #[test]
