@@ -66,6 +66,8 @@ impl Device for FixedDevice {
     fn lay(&mut self, plan: &Plan) -> Result<(), LayRefused>
         ensures laid { OnOk result (self.new ≡ record self.old { memory = record self.old.memory { blocks = zero_blocks plan.now; plan = Some plan.now } }) }
         ensures refused { OnErr result (self.new.memory.plan ≡ None) }
+        ensures slot { self.new.slot ≡ self.old.slot }
+        ensures bytes { self.new.bytes ≡ self.old.bytes }
         ensures memory { IfErr result (λ e. e ≡ LayRefused.OutOfMemory) }
         ensures counts { self.new.memory.counts ≡ self.old.memory.counts }
         ensures cause { Counted self.old.memory.counts.faults self.new.memory.counts.faults result }

@@ -70,6 +70,7 @@ impl<V: Device> Recorder<V> {
         ensures refused { OnErr result (self.new.plan ≡ None) }
         ensures trace { self.new.trace ≡ [] }
         ensures counted { V.calls self.new.device ≡ 0 }
+        ensures last_call { V.last_call self.new.device ≡ V.last_call self.old.device }
         ensures last { self.new.last ≡ [] }
         ensures cause { Counted (V.faults self.old.device) (V.faults self.new.device) result }
     {

@@ -1,5 +1,5 @@
 -- The latest write of a slot, when an access comes behind the others.
-use Rattle.std.proofs.Common.{◌≡◌, ◌≢◌, ℕ, zero, suc, ◌<◌, true, false, ◌&&◌, ◌==◌, List, [], ◌∷◌, ◌++◌, length, Some, refl, sym, ap, ◌∙◌, arith, inl, inr}
+use Rattle.std.proofs.Common.{◌≡◌, ◌≢◌, ℕ, zero, suc, ◌<◌, true, false, ◌&&◌, ◌==◌, List, [], ◌∷◌, ◌++◌, length, Option, Some, refl, sym, ap, ◌∙◌, arith, inl, inr}
 use Rattle.std.specs.Prelude.{find, slice_get, slice_set, if◌then◌else◌}
 use Rattle.std.proofs.lemmas.Bool.{cases_Bool}
 use Rattle.std.proofs.lemmas.Bool.Decides.{nat_tests}
@@ -10,7 +10,7 @@ use Rattle.esa_envelope.specs.Envelope.{sealed_as}
 use Rattle.esa_params.specs.Sizes.{Sizes}
 use Rattle.esa_params.specs.declared.slot.Access.{Access}
 use Rattle.esa_params.specs.declared.slot.Op.TheVariants.{Read, Write}
-use Rattle.esa_vault.specs.Latest.{AllHoldLatest, HoldsLatest, is_write, latest_write, slot_number, writes_to}
+use Rattle.esa_vault.specs.Latest.{AllHoldLatest, AllToldLatest, HoldsLatest, is_write, latest_write, slot_number, writes_to}
 
 -- by whether the last access writes the slot
 pub latest-push : (p : Sizes) (number : ℕ) (accesses : List Access) (access : Access)
@@ -58,6 +58,11 @@ pub holds-read : (p : Sizes) (keys : Keys) (text : Access → List ℕ) (held : 
     → access.op ≡ Read → AllHoldLatest p keys text held accesses → AllHoldLatest p keys text held (accesses ++ access ∷ [])
 holds-read p keys text held accesses access reads holds number planned latest is =
     holds number planned latest (sym (latest-read p number accesses access reads) ∙ is)
+
+pub told-read : (p : Sizes) (keys : Keys) (text : Access → List ℕ) (old new : Option (List (List ℕ))) (accesses : List Access) (access : Access)
+    → access.op ≡ Read → new ≡ old → AllToldLatest p keys text old accesses → AllToldLatest p keys text new (accesses ++ access ∷ [])
+told-read p keys text old new accesses access reads same told number planned blocks is latest wrote =
+    told number planned blocks (sym same ∙ is) latest (sym (latest-read p number accesses access reads) ∙ wrote)
 
 pub holds-other : (p : Sizes) (keys : Keys) (text : Access → List ℕ) (held : List (List ℕ)) (accesses : List Access) (access : Access) (number : ℕ) (bytes : List ℕ)
     → number ≢ slot_number p access → HoldsLatest p keys text held accesses number

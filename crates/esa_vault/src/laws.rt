@@ -2,7 +2,7 @@
 //!
 //! The functions do nothing when they run. They are there so that each law is proved where a contract names it.
 
-ghost use Rattle.std.specs.Prelude.{◌≡◌, ◌≢◌, ℕ, ◌+◌, ◌*◌, ◌/◌, ◌^◌, ◌<◌, true, false, Some, Option, Result, OnOk, All, List, [], ◌∷◌, ◌++◌, length, replicate, slice_get, slice_set, if◌then◌else◌};
+ghost use Rattle.std.specs.Prelude.{◌≡◌, ◌≢◌, ℕ, ◌+◌, ◌*◌, ◌/◌, ◌^◌, ◌<◌, ◌≤◌, true, false, Some, Option, Result, OnOk, All, List, [], ◌∷◌, ◌++◌, length, replicate, slice_get, slice_set, if◌then◌else◌};
 ghost use Rattle.esa_envelope.specs.Envelope.{nonce_in, sealed_as};
 ghost use Rattle.esa_envelope.specs.declared.keys.Keys.{Keys};
 ghost use Rattle.esa_envelope.specs.declared.label.Label.{Label};
@@ -63,6 +63,13 @@ pub fn each_place_suits()
         → suits count place (kind_held (bytes_at size text place)) ≡ true }
 {}
 
+/// Each item that a block's text holds can stand in a block again: it is well formed, and its body is zero behind the
+/// bytes that spell it.
+pub fn held_items_are_spelled()
+    ensures { (size place : ℕ) (text : List ℕ) (item : Item) → IsItemLength size → place * size + size ≤ length text
+        → item_in (bytes_at size text place) ≡ Some item → IsSpelled size item }
+{}
+
 /// Before any access no slot must hold a seal.
 pub fn nothing_written()
     ensures { (p : Sizes) (keys : Keys) (text : Access → List ℕ) (held : List (List ℕ)) → AllHoldLatest p keys text held [] }
@@ -75,6 +82,9 @@ pub fn one_read_more()
     ensures holds { (p : Sizes) (keys : Keys) (text : Access → List ℕ) (held : List (List ℕ)) (accesses : List Access) (access : Access)
         → access.op ≡ Op.Read → AllHoldLatest p keys text held accesses
         → AllHoldLatest p keys text held (accesses ++ access ∷ []) }
+    ensures told { (p : Sizes) (keys : Keys) (text : Access → List ℕ) (old new : Option (List (List ℕ))) (accesses : List Access) (access : Access)
+        → access.op ≡ Op.Read → new ≡ old → AllToldLatest p keys text old accesses
+        → AllToldLatest p keys text new (accesses ++ access ∷ []) }
 {}
 
 /// A write is the latest of its slot, and of no other. What it seals stands there, and whatever a failed one leaves
