@@ -10,16 +10,9 @@ distinct. The script says of each target whether it holds, and ends with status 
 import os
 import tempfile
 
-from measure import instructions, peak_memory, program
+from measure import SIZES, instructions, peak_memory, program, settle, targets_of
 
-SIZES = [1_000, 10_000, 100_000, 262_144]
 MASTER = bytes(range(32)).hex()
-
-# What is wanted: instructions beside the bare work's at one size, an envelope's instructions at a large size beside
-# those at a small one, and the peak of memory beside the input where the input outweighs the program itself.
-RATIO, RATIO_AT = 1.5, 100_000
-GROWTH, GROWTH_FROM, GROWTH_TO = 1.3, 10_000, 262_144
-PEAK, PEAK_FROM = 3, 100_000
 
 
 def main():
@@ -35,11 +28,8 @@ def main():
                 file.write(text)
         for values in ["seven", "distinct"]:
             rows = {size: measure(esa, bench, folder, values, size) for size in SIZES}
-            targets += judged(values, rows)
-    for target, found, limit in targets:
-        print(f"{target}: {found:.2f}, at most {limit}: {'holds' if found <= limit else 'FAILS'}")
-    if any(found > limit for _, found, limit in targets):
-        raise SystemExit(1)
+            targets += targets_of(values, rows)
+    settle(targets)
 
 
 def measure(esa, bench, folder, values, size):
@@ -51,15 +41,6 @@ def measure(esa, bench, folder, values, size):
     peak = peak_memory(command, folder) / os.path.getsize(os.path.join(folder, "forward.bin"))
     print(f"{values:>8} {size:>9} {count:>14} {count / size:>7.0f} {count / bare:>8.2f} {peak:>13.2f}", flush=True)
     return count / size, count / bare, peak
-
-
-def judged(values, rows):
-    """The targets of one kind of values: what is measured, what was found, and the most that it may be."""
-    yield f"{values}, instructions of bare at {RATIO_AT}", rows[RATIO_AT][1], RATIO
-    yield f"{values}, instructions an envelope at {GROWTH_TO} of those at {GROWTH_FROM}", rows[GROWTH_TO][0] / rows[GROWTH_FROM][0], GROWTH
-    for size in SIZES:
-        if size >= PEAK_FROM:
-            yield f"{values}, peak of input at {size}", rows[size][2], PEAK
 
 
 if __name__ == "__main__":

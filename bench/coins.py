@@ -15,25 +15,30 @@ import os
 import random
 import tempfile
 
-from measure import instructions, peak_memory, program
+from measure import instructions, peak_memory, program, settle
 
 RECORDS = 262_144
 BUCKETS = 128
 PLACES = 22_000
+LIMIT = 1.5
 
 
 def main():
     bench = program("esa_bench")
+    targets = []
     for draw in ["single", "separators"]:
         drawn = instructions([bench, f"coins-{draw}", str(RECORDS)], ".")
         bare = instructions([bench, f"coins-{draw}-bare", str(RECORDS)], ".")
-        print(f"drawn {draw}: {drawn} instructions, {drawn / bare:.2f} of rand alone")
+        print(f"drawn {draw}: {drawn} instructions")
+        targets.append((f"drawn {draw}, of rand alone", drawn / bare, LIMIT))
     with tempfile.TemporaryDirectory() as folder:
         size = write_coins(os.path.join(folder, "coins.json"))
         steps = {name: instructions([bench, f"coins-{name}", str(RECORDS)], folder) for name in ["read", "copy"]}
         peaks = {name: peak_memory([bench, f"coins-{name}", str(RECORDS)], folder) for name in ["read", "value"]}
-        print(f"read {size} bytes: {steps['read']} instructions, {steps['read'] / steps['copy']:.2f} of reading and copying")
-        print(f"peak memory {peaks['read']} bytes, {peaks['read'] / peaks['value']:.2f} of reading alone")
+    print(f"read {size} bytes: {steps['read']} instructions, at most {peaks['read']} bytes of memory")
+    targets.append(("instructions of reading and copying", steps["read"] / steps["copy"], LIMIT))
+    targets.append(("peak of memory of reading alone", peaks["read"] / peaks["value"], LIMIT))
+    settle(targets)
 
 
 def write_coins(path):

@@ -11,16 +11,9 @@ import json
 import os
 import tempfile
 
-from measure import instructions, peak_memory, program
+from measure import SIZES, instructions, peak_memory, program, settle, targets_of
 
-SIZES = [1_000, 10_000, 100_000, 262_144]
 KEYS = {"outer": bytes(range(32)).hex(), "inner": bytes(range(32, 64)).hex()}
-
-# Targets: instructions of bare at a size, instructions a report at a great size of those at a small one, and the peak
-# of memory beside input and output from a size on.
-RATIO, RATIO_AT = 1.5, 100_000
-GROWTH, GROWTH_FROM, GROWTH_TO = 1.3, 10_000, 262_144
-PEAK, PEAK_FROM = 3, 100_000
 
 
 def main():
@@ -30,11 +23,7 @@ def main():
         write(folder, "keys.json", KEYS)
         write(folder, "encode.json", {"keys": "keys.json", "input": "reports", "output": "submissions", "nonce_base": 0})
         rows = {size: measure(esa, bench, folder, size) for size in SIZES}
-    targets = list(judged(rows))
-    for target, found, limit in targets:
-        print(f"{target}: {found:.2f}, at most {limit}: {'holds' if found <= limit else 'FAILS'}")
-    if any(found > limit for _, found, limit in targets):
-        raise SystemExit(1)
+    settle(targets_of("encode", rows))
 
 
 def write(folder, name, fields):
@@ -58,15 +47,6 @@ def measure(esa, bench, folder, size):
     print(f"{size:>8} {count:>14} {count / size:>7.0f} {count / bare:>8.2f} {(digits - nothing) / size:>11.0f}"
           f" {(text - nothing) / size:>8.0f} {peak:>13.2f}", flush=True)
     return count / size, count / bare, peak
-
-
-def judged(rows):
-    """The targets: what is measured, what was found, and the most that it may be."""
-    yield f"instructions of bare at {RATIO_AT}", rows[RATIO_AT][1], RATIO
-    yield f"instructions a report at {GROWTH_TO} of those at {GROWTH_FROM}", rows[GROWTH_TO][0] / rows[GROWTH_FROM][0], GROWTH
-    for size in SIZES:
-        if size >= PEAK_FROM:
-            yield f"peak of input and output at {size}", rows[size][2], PEAK
 
 
 if __name__ == "__main__":

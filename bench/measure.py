@@ -1,4 +1,4 @@
-"""What the scripts of this folder share: programs of the repository, their instructions, memory and time."""
+"""What the scripts of this folder share: programs of the repository, their instructions and memory, and targets."""
 
 import os
 import re
@@ -6,6 +6,14 @@ import subprocess
 import tempfile
 
 TOP = os.path.dirname(os.path.dirname(os.path.abspath(__file__)))
+
+# The sizes at which a command over records is measured, and what is wanted of it: its instructions beside those of the
+# bare work at one size, a record's instructions at a large size beside those at a small one, and its peak of memory
+# beside its files from the size on where these outweigh the program itself.
+SIZES = [1_000, 10_000, 100_000, 262_144]
+RATIO, RATIO_AT = 1.5, 100_000
+GROWTH, GROWTH_FROM, GROWTH_TO = 1.3, 10_000, 262_144
+PEAK, PEAK_FROM = 3, 100_000
 
 
 def program(name):
@@ -37,3 +45,22 @@ def peak_memory(command, folder):
     if child.returncode != 0:
         raise SystemExit(f"{command} ended with status {child.returncode}")
     return usage.ru_maxrss * 1024
+
+
+def targets_of(name, rows):
+    """The targets of a command, by its row at each size: a record's instructions, and those and the peak beside what they are measured by."""
+    yield f"{name}, instructions of bare at {RATIO_AT}", rows[RATIO_AT][1], RATIO
+    yield f"{name}, instructions a record at {GROWTH_TO} of those at {GROWTH_FROM}", rows[GROWTH_TO][0] / rows[GROWTH_FROM][0], GROWTH
+    for size in SIZES:
+        if size >= PEAK_FROM:
+            yield f"{name}, peak of its files at {size}", rows[size][2], PEAK
+
+
+def settle(targets):
+    """Says of each target (what is measured, what was found, the most that it may be) whether it holds, and ends with status 1 where one doesn't."""
+    failed = False
+    for target, found, limit in targets:
+        print(f"{target}: {found:.3f}, at most {limit}: {'holds' if found <= limit else 'FAILS'}")
+        failed |= found > limit
+    if failed:
+        raise SystemExit(1)

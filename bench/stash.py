@@ -6,11 +6,12 @@ empty. The instructions of filling the stash are counted apart and taken off. Th
 machine changes nothing.
 """
 
-from measure import instructions, program
+from measure import instructions, program, settle
 
 HELD = [20_000, 200_000]
 EXCHANGES = 20
 ITEMS = 3_125
+LIMIT = 1.2
 
 
 def main():
@@ -19,7 +20,7 @@ def main():
     costs = [each(bench, held) for held in HELD]
     for held, cost in zip(HELD, costs):
         print(f"{held:>8} {cost:>20.1f}")
-    print(f"the greatest is {max(costs) / min(costs):.3f} times the least")
+    settle([("the greatest of the least", max(costs) / min(costs), LIMIT)])
 
 
 def each(bench, held):

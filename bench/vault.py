@@ -9,15 +9,17 @@ dummies alone, whose bodies are looked at.
 
 import tempfile
 
-from measure import instructions, program
+from measure import instructions, program, settle
 
 BODIES = {"one": 136, "two": 264}
 ITEMS = [144, 3_125]
 FEW, MANY = 2, 7
+LIMIT = 1.2
 
 
 def main():
     bench = program("esa_bench")
+    targets = []
     print(f"{'form':>4} {'items':>6} {'real':>6} {'instructions':>13} {'of bare':>8}")
     with tempfile.TemporaryDirectory() as folder:
         for form, body in BODIES.items():
@@ -25,7 +27,9 @@ def main():
                 bare = bare_work(bench, folder, items * (body + 1))
                 for real in [items, 0]:
                     each = difference(lambda times: [bench, f"vault-{form}", str(items), str(real), str(times)], folder)
-                    print(f"{form:>4} {items:>6} {real:>6} {each:>13.0f} {each / bare:>8.2f}")
+                    print(f"{form:>4} {items:>6} {real:>6} {each:>13.0f} {each / bare:>8.2f}", flush=True)
+                    targets.append((f"form {form}, {items} items, {real} real, of bare", each / bare, LIMIT))
+    settle(targets)
 
 
 def bare_work(bench, folder, length):

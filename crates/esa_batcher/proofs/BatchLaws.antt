@@ -2,9 +2,11 @@
 use Rattle.std.proofs.Common.{◌≡◌, ◌⊎◌, ℕ, ◌+◌, ◌*◌, ◌<◌, ◌≤◌, ◌^◌, cond, List, ◌++◌, length, drop, Option, Some, None, Result, Ok, Err, refl, sym, ap, subst, ◌∙◌, inl, inr, arith}
 use Rattle.std.specs.Prelude.{nat_lt, IfOk, MatchResult}
 use Rattle.std.specs.List.{concat}
+use Rattle.std.specs.List.Sorted.{IsSorted}
 use Rattle.std.proofs.lemmas.List.{take_at, drop_at, length-append, length-drop, take-append-drop}
 use Rattle.esa_params.specs.Form.{envelope_length}
 use Rattle.esa_header.specs.Pieces.{pieces, HaveLength}
+use Rattle.esa_header.specs.Version.{IsEpochOf}
 use Rattle.esa_header.specs.declared.header.FileKind.TheVariants.{Batch}
 use Rattle.esa_header.specs.declared.header.Header.{Header}
 use Rattle.esa_header.specs.declared.header.HeaderRefused.{HeaderRefused}
@@ -19,7 +21,7 @@ use Rattle.esa_batcher.specs.declared.envelopes.Envelopes.{Envelopes}
 use Rattle.esa_batcher.specs.Envelopes.{list_of, form_of}
 use Rattle.esa_batcher.specs.Inside.{IsBatched}
 use Rattle.esa_batcher.specs.Reading.{number_in, unless_fallen, order_in, batch_behind, accepted_as, behind_header, batch_in}
-use Rattle.esa_batcher.specs.Rising.{fall_at}
+use Rattle.esa_batcher.specs.Rising.{by_bytes, fall_at}
 use Rattle.esa_batcher.proofs.RisingLaws.{IsSorted-from_none, fall_at-sorted}
 
 pub behind-size : (bytes : List ℕ) (header : Header) → length bytes ≡ file_length Batch header → length (drop (header_length header.form) bytes) ≡ envelope_length header.form * header.count
@@ -68,6 +70,8 @@ held m bytes records header envelopes done is behind passed form_is list_is =
     record {
       lengths = subst (λ n. HaveLength n (list_of envelopes)) (ap envelope_length (sym form_is)) (subst (λ xs. HaveLength size xs) (sym list) (HaveLength-pieces size header.count records whole));
       number = subst (λ xs. length xs ≤ MOST_RECORDS) (sym list) p.few;
+      epoch = subst (λ form. IsEpochOf form header.epoch) (sym form_is) is.epoch;
+      rising = subst (λ xs. IsSorted by_bytes xs) (sym list) (IsSorted-from_none 0 (pieces size header.count records) p.rise);
     }
 
 -- what was read is a batch, and its file are the bytes

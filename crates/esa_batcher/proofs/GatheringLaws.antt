@@ -19,7 +19,7 @@ use Rattle.esa_batcher.specs.Batched.{IsBatch}
 use Rattle.esa_batcher.specs.Envelopes.{list_of, form_of}
 use Rattle.esa_batcher.specs.Finishing.{epoch_of, batch_of}
 use Rattle.esa_batcher.specs.Gathering.{gathered_in, IsGathered}
-use Rattle.esa_batcher.specs.Inside.{batched_in, IsBatched}
+use Rattle.esa_batcher.specs.Inside.{batched_in}
 use Rattle.esa_batcher.specs.Rising.{by_bytes}
 
 epoch_fits : (form : Form) (epoch : ℕ) → epoch < 2 ^ 32 → IsEpochOf form (epoch_of form epoch)
@@ -35,10 +35,6 @@ module _ (a : Inside) (seen : Gathered) (is : gathered_in a ≡ seen) (held : Is
       subst (λ form. HaveLength (envelope_length form) (list_of b)) (sym form_is)
       (subst (λ list. HaveLength (envelope_length (form_of a.envelopes)) list) (sym list_is)
       (All-permutation (λ piece. length piece ≡ envelope_length (form_of a.envelopes)) _ _ (IsPermutation-ordered by_bytes (list_of a.envelopes)) held.lengths))
-
-  -- it can be kept
-  pub sorted_held : (epoch : ℕ) → IsBatched (record { envelopes = b; epoch = epoch })
-  sorted_held epoch = record { lengths = lengths; number = number }
 
   -- is a batch
   pub sorted_batch : (given epoch : ℕ) → epoch ≡ epoch_of (form_of b) given → given < 2 ^ 32 → IsBatch (batched_in (record { envelopes = b; epoch = epoch }))

@@ -4,7 +4,7 @@ ghost use Rattle.std.specs.Prelude.{◌≡◌, ◌*◌, ◌+◌, ◌≤◌, ◌<
 ghost use Rattle.std.specs.List.{concat};
 ghost use Rattle.esa_header.specs.Header.{header_length};
 ghost use Rattle.esa_params.specs.Form.{envelope_length};
-ghost use Rattle.esa_batcher.specs.Batched.{batch_front, batch_bytes};
+ghost use Rattle.esa_batcher.specs.Batched.{IsBatch, batch_front, batch_bytes};
 ghost use Rattle.esa_outside.specs.Cause.{HasCause};
 ghost use Rattle.esa_page.specs.Underway.{IsWhole, IsLeft};
 
@@ -53,9 +53,10 @@ impl Batch {
         self.epoch
     }
 
-    /// The number of envelopes.
+    /// The number of envelopes, at most 262,144. Each has its form's length, and they are in rising order.
     pub fn count(&self) -> u32
-        ensures { result ≡ length self.now.list }
+        ensures number { result ≡ length self.now.list }
+        ensures batch { IsBatch self.now }
     {
         self.envelopes.len() as u32
     }
