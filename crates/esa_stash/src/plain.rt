@@ -1,6 +1,7 @@
 //! A stash that is a plain list of pairs of target and number, and a table of exchanges that runs it beside the arena.
 
 ghost use Rattle.std.specs.Prelude.{◌≡◌, ◌*◌, ◌^◌, ◌<◌, ◌≤◌, All, length, vec_len, IfOk};
+ghost use Rattle.esa_stash.specs.Stash.{contents};
 
 use crate::Stash;
 use crate::tests::{numbers, real};
@@ -104,11 +105,11 @@ fn exchange_both(
     chunk: u32,
     targets: &[u32],
 ) -> Result<(), AllocError>
-    requires targets { length stash.old.queues ≡ limit }
+    requires targets { length (contents stash.old).queues ≡ limit }
     requires chunk { stash.old.c ≡ chunk }
     requires below { All (λ target. target < limit) targets.now }
     requires small { limit * chunk < 2 ^ 32 }
-    ensures targets { IfOk result (λ _. length stash.new.queues ≡ limit) }
+    ensures targets { IfOk result (λ _. length (contents stash.new).queues ≡ limit) }
     ensures chunk { IfOk result (λ _. stash.new.c ≡ chunk) }
 {
     let mut items = Vec::new(alloc);
