@@ -2,7 +2,7 @@
 
 ghost use Rattle.std.specs.Prelude.{◌≡◌, ◌*◌, ◌≤◌, ◌<◌, ◌↔◌, List, [], ◌∷◌, ◌++◌, All, length, map, take, slice_set, IfOk, IfErr, IsOk, OnOk, OnErr};
 ghost use Rattle.esa_stash.specs.Stash.{Handed, contents, empty_stash, without, queue_at, padded, chunks as chunks_of, counts as counts_of, exchanged, total};
-ghost use Rattle.esa_stash.specs.Since.{IsSince, last_chunks, last_counts, total_backlog};
+ghost use Rattle.esa_stash.specs.Since.{IsSince, tail, tail_length, last_chunks, last_counts, total_backlog};
 
 use crate::cells::Cells;
 use crate::{dealing, totals};
@@ -118,11 +118,20 @@ impl Stash {
     /// `Left` comes exactly where the queue is longer than `out`, and then all is as before.
     pub fn spill(&mut self, target: u32, out: &mut [Item]) -> Result<u32, Left>
         requires { target < length (contents self.old).queues }
+
+        // The queue as it was.
         ensures fits { IsOk result ↔ (length (queue_at (contents self.old) target) ≤ length out.old) }
         ensures moved { OnOk result (out.new ≡ padded (length out.old) (queue_at (contents self.old) target)) }
         ensures count { IfOk result (λ count. count ≡ length (queue_at (contents self.old) target)) }
         ensures emptied { OnOk result (contents self.new ≡ without (contents self.old) target) }
         ensures left { IfErr result (λ left. left.held ≡ length (queue_at (contents self.old) target)) }
+
+        // The same by all that was handed over since the stash was empty, each time with Ok and no spill between.
+        ensures fits_since { (all : List Handed) → IsSince all (contents self.old) → IsOk result ↔ (tail_length self.old.c all target ≤ length out.old) }
+        ensures moved_since { OnOk result ((all : List Handed) → IsSince all (contents self.old) → out.new ≡ padded (length out.old) (tail self.old.c all target)) }
+        ensures count_since { IfOk result (λ count. (all : List Handed) → IsSince all (contents self.old) → count ≡ tail_length self.old.c all target) }
+        ensures left_since { IfErr result (λ left. (all : List Handed) → IsSince all (contents self.old) → left.held ≡ tail_length self.old.c all target) }
+
         ensures unchanged { OnErr result (self.new ≡ self.old) }
         ensures out_unchanged { OnErr result (out.new ≡ out.old) }
     {

@@ -81,6 +81,7 @@ fn arena_full(rt: HostRuntime) -> Result<(), Fail> {
     assert_eq!(rt; stash.cells().free(), 0);
     let done = stash.exchange(&[0, 0], &[real(13), real(14)], &mut chunks, &mut counts);
     assert_eq!(rt; done, Err(Overflow { total: 3 }));
+    assert_eq!(rt; stash.cells().free(), 0);
     assert_eq!(rt; numbers(alloc, &chunks)?.as_slice(), [10, 0].as_slice());
     assert_eq!(rt; counts, [1, 0]);
     let mut short = [real(7); 1];
@@ -90,6 +91,25 @@ fn arena_full(rt: HostRuntime) -> Result<(), Fail> {
     assert_eq!(rt; stash.spill(0, &mut enough), Ok(2));
     assert_eq!(rt; numbers(alloc, &enough)?.as_slice(), [11, 12].as_slice());
     assert_eq!(rt; stash.cells().free(), 2);
+    Ok(())
+}
+
+// The most items that a batch has, all for one target, in a stash that holds all but one of them.
+#[test]
+fn largest_batch(rt: HostRuntime) -> Result<(), Fail> {
+    let alloc = rt.alloc();
+    let mut stash = Stash::make(alloc, 2, 1, 262_143)?;
+    let targets = vec![in alloc; 1; 262_144]?;
+    let items = vec![in alloc; real(10); 262_144]?;
+    let mut chunks = [real(7); 2];
+    let mut counts = [9; 2];
+    let done = stash.exchange(&targets, &items, &mut chunks, &mut counts);
+    assert_eq!(rt; done, Ok(()));
+    assert_eq!(rt; numbers(alloc, &chunks)?.as_slice(), [0, 10].as_slice());
+    assert_eq!(rt; counts, [0, 1]);
+    assert_eq!(rt; stash.cells().free(), 0);
+    let done = stash.exchange(&[1, 1], &[real(11), real(12)], &mut chunks, &mut counts);
+    assert_eq!(rt; done, Err(Overflow { total: 262_144 }));
     Ok(())
 }
 
