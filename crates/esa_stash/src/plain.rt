@@ -78,7 +78,7 @@ fn drawn(seed: u32) -> u32 {
 }
 
 // So many targets below a limit.
-fn drawn_targets(
+pub fn drawn_targets(
     alloc: Global,
     mut seed: u32,
     many: u32,

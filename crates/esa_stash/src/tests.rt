@@ -1,5 +1,6 @@
 //! Worked cases of the stash, and a stash that is a plain list of pairs beside it.
 
+use crate::plain::drawn_targets;
 use crate::{Cells, Left, Overflow, Stash};
 use esa_report::{Item, Kind};
 use std::alloc::{AllocError, Global};
@@ -94,22 +95,25 @@ fn arena_full(rt: HostRuntime) -> Result<(), Fail> {
     Ok(())
 }
 
-// The most items that a batch has, all for one target, in a stash that holds all but one of them.
+// An exchange of as many items as the largest batch has, all for one target.
+fn exchange_largest(alloc: Global, room: u32) -> Result<Result<(), Overflow>, AllocError> {
+    let mut stash = Stash::make(alloc, 1, 1, room)?;
+    let targets = drawn_targets(alloc, 0, 262_144, 1)?;
+    let items = vec![in alloc; real(10); targets.len()]?;
+    let mut chunks = [real(7); 1];
+    let mut counts = [9; 1];
+    Ok(stash.exchange(&targets, &items, &mut chunks, &mut counts))
+}
+
+// One of the items leaves, and the stash has room for the others or for one fewer.
 #[test]
 fn largest_batch(rt: HostRuntime) -> Result<(), Fail> {
     let alloc = rt.alloc();
-    let mut stash = Stash::make(alloc, 2, 1, 262_143)?;
-    let targets = vec![in alloc; 1; 262_144]?;
-    let items = vec![in alloc; real(10); 262_144]?;
-    let mut chunks = [real(7); 2];
-    let mut counts = [9; 2];
-    let done = stash.exchange(&targets, &items, &mut chunks, &mut counts);
-    assert_eq!(rt; done, Ok(()));
-    assert_eq!(rt; numbers(alloc, &chunks)?.as_slice(), [0, 10].as_slice());
-    assert_eq!(rt; counts, [0, 1]);
-    assert_eq!(rt; stash.cells().free(), 0);
-    let done = stash.exchange(&[1, 1], &[real(11), real(12)], &mut chunks, &mut counts);
-    assert_eq!(rt; done, Err(Overflow { total: 262_144 }));
+    assert_eq!(rt; exchange_largest(alloc, 262_143)?, Ok(()));
+    assert_eq!(rt;
+        exchange_largest(alloc, 262_142)?,
+        Err(Overflow { total: 262_143 })
+    );
     Ok(())
 }
 
