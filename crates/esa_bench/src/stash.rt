@@ -1,6 +1,7 @@
 //! Exchanges with a stash that holds many items.
 
 ghost use Rattle.std.specs.Prelude.{◌≡◌, ◌*◌, ◌<◌, ◌≤◌, All, length, IfOk, OnOk};
+ghost use Rattle.esa_stash.specs.Stash.{contents};
 
 use anyhow::{Result, bail, ensure};
 use esa_report::{Item, Kind};
@@ -42,9 +43,9 @@ pub fn fill<R: Print + AllocGlobal>(rt: &R, size: u64, then: Then) -> Result<()>
 
 /// So many exchanges of so many items.
 fn exchange(alloc: Global, stash: &mut Stash, items: u32, many: u32) -> Result<()>
-    requires queues { length stash.old.queues ≡ 32 }
+    requires queues { length (contents stash.old).queues ≡ 32 }
     requires chunk { stash.old.c ≡ 96 }
-    ensures queues { OnOk result (length stash.new.queues ≡ 32) }
+    ensures queues { OnOk result (length (contents stash.new).queues ≡ 32) }
     ensures chunk { OnOk result (stash.new.c ≡ 96) }
 {
     let targets = targets_in_turn(alloc, items)?;
@@ -86,13 +87,13 @@ fn repeat(
     chunks: &mut [Item],
     counts: &mut [u32],
 ) -> Result<(), Overflow>
-    requires queues { length stash.old.queues ≡ 32 }
+    requires queues { length (contents stash.old).queues ≡ 32 }
     requires chunk { stash.old.c ≡ 96 }
     requires target_each { length items.now ≡ length targets.now }
     requires below { All (λ target. target < 32) targets.now }
     requires places { length chunks.old ≡ 3072 }
     requires count_each { length counts.old ≡ 32 }
-    ensures queues { OnOk result (length stash.new.queues ≡ 32) }
+    ensures queues { OnOk result (length (contents stash.new).queues ≡ 32) }
     ensures chunk { OnOk result (stash.new.c ≡ 96) }
 {
     for _turn in 0..many {

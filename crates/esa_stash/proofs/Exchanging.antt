@@ -12,8 +12,8 @@ use Rattle.esa_stash.specs.Draws.{chosen}
 use Rattle.esa_stash.specs.Queue.{queue, leaving, waiting, departed}
 use Rattle.esa_report.specs.declared.item.Item.{Item}
 use Rattle.esa_stash.specs.Arena.{Arena, empty_arena, queues_of, items_in, chain_at, IsShared}
-use Rattle.esa_stash.specs.Stash.{Held, Handed, empty_stash, targets_of, coming, line, chunk, rest, padded, padded_chunk, chunks, count, counts, exchanged, total}
-use Rattle.esa_stash.specs.Since.{batches, IsSince, last_chunk, last_chunks, last_count, last_counts, backlog, total_backlog}
+use Rattle.esa_stash.specs.Stash.{Held, Handed, empty_stash, targets_of, queue_at, coming, line, chunk, rest, padded, padded_chunk, chunks, count, counts, exchanged, total}
+use Rattle.esa_stash.specs.Since.{batches, tail_length, IsSince, last_chunk, last_chunks, last_count, last_counts, backlog, total_backlog}
 use Rattle.esa_stash.specs.Dealing.{queue_of, line_after, left_of, left_after, arrivals, AreDealt}
 use Rattle.esa_stash.proofs.Partitions.{occurrences-cons}
 use Rattle.esa_stash.proofs.Rising.{occurrences-range, map-replicate}
@@ -81,6 +81,10 @@ arrivals-together (t ∷ ts) n =
     let both = sum_by-two (λ i. cond (eqb t i) 1 0) (arrivals ts) n in
     let split = sum_by-same (arrivals (t ∷ ts)) (λ i. cond (eqb t i) 1 0 + arrivals ts i) n (λ i _. occurrences-cons i t ts) in
     omega arith
+
+-- a queue is as long as its target's tail
+pub length-tail : (held : Held) (all : List Handed) (i : ℕ) → IsSince all held → i < length held.queues → length (queue_at held i) ≡ tail_length held.c all i
+length-tail held all i since inside = ap length (since i inside) ∙ length-queue held.c (batches all i) (length all)
 
 -- ---- by all that was handed over before
 module _ (held : Held) (all : List Handed) (last : Handed) (since : IsSince all held) where

@@ -8,9 +8,17 @@ use Rattle.esa_stash.specs.Stash.{Held, Handed, coming, queue_at, targets_of, pa
 abbrev pub batches : List Handed → ℕ → List (List Item)
 batches all i = map (λ handed. coming handed i) all
 
--- each queue is what waits of these batches, where up to c leave with each
+-- a target's tail: what waits of these batches, where up to c leave with each
+abbrev pub tail : ℕ → List Handed → ℕ → List Item
+tail c all i = queue c (batches all i) (length all)
+
+-- how many that is
+abbrev pub tail_length : ℕ → List Handed → ℕ → ℕ
+tail_length c all i = waiting c (batches all i) (length all)
+
+-- each queue is its target's tail
 abbrev pub IsSince : List Handed → Held → Type 0
-IsSince all held = (i : ℕ) → i < length held.queues → queue_at held i ≡ queue held.c (batches all i) (length all)
+IsSince all held = (i : ℕ) → i < length held.queues → queue_at held i ≡ tail held.c all i
 
 -- the chunk of a target in the last exchange
 abbrev pub last_chunk : ℕ → List Handed → Handed → ℕ → List Item

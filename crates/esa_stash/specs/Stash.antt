@@ -1,18 +1,28 @@
--- A stash: a queue of items for each target, and what an exchange makes of it.
+-- A stash: an arena with a queue of items for each target, and what an exchange makes of the queues.
 --
 -- In an exchange each new item goes behind its target's queue. Then up to c items leave each queue from the front, as
 -- the target's chunk, which is padded at its end.
-use Rattle.std.specs.Prelude.{ℕ, ◌-◌, List, [], ◌++◌, length, map, take, drop, replicate, flat_map, sum_by, slice_index_or}
+use Rattle.std.specs.Prelude.{ℕ, ◌-◌, List, [], ◌++◌, length, map, take, drop, replicate, flat_map, sum_by, slice_index_or, slice_set}
 use Rattle.esa_params.specs.Sizes.{below}
 use Rattle.esa_spec.specs.Draws.{chosen}
 use Rattle.esa_report.specs.declared.item.Item.{Item}
 use Rattle.esa_report.specs.Item.{dummy_item}
+use Rattle.esa_stash.specs.Arena.{Arena, queues_of}
+
+-- a stash: the items of a chunk, and the arena whose chains are the queues
+pub record Stashed : Type 0 where
+  pub c : ℕ
+  pub cells : Arena
 
 -- the items of a chunk, the items that are held at most, and the queue of each target
 pub record Held : Type 0 where
   pub c : ℕ
   pub s : ℕ
   pub queues : List (List Item)
+
+-- the same of a stash, whichever cells its items are in
+abbrev pub contents : Stashed → Held
+contents stash = record { c = stash.c; s = stash.cells.room; queues = queues_of stash.cells }
 
 -- the targets, from 0 on
 abbrev pub targets_of : Held → List ℕ
@@ -25,6 +35,10 @@ queue_at held i = slice_index_or held.queues i []
 -- nothing queued, for b targets
 abbrev pub empty_stash : ℕ → ℕ → ℕ → Held
 empty_stash b c s = record { c = c; s = s; queues = replicate b [] }
+
+-- a target's queue emptied
+abbrev pub without : Held → ℕ → Held
+without held i = record held { queues = slice_set held.queues i [] }
 
 -- n places: the items, then dummies
 abbrev pub padded : ℕ → List Item → List Item

@@ -92,6 +92,7 @@ impl Cells {
         requires { chain < length self.old.chains }
         ensures first { result ≡ option_map (λ held. held.1) (slice_get (chain_at self.old chain) 0) }
         ensures empty { IsNone result ↔ (chain_at self.old chain ≡ []) }
+        ensures shared { IsShared self.old }
         ensures rest { self.new ≡ popped self.old chain }
     {
         let cell = self.links.shift(chain as usize + 1, FREE)?;

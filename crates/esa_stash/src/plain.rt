@@ -1,20 +1,21 @@
-//! A stash that is a plain list of pairs of target and number, and a table of exchanges that runs it beside the arena.
+//! A stash that is a plain list of pairs of target and item, and a table of exchanges that runs it beside the arena.
 
 ghost use Rattle.std.specs.Prelude.{◌≡◌, ◌*◌, ◌^◌, ◌<◌, ◌≤◌, All, length, vec_len, IfOk};
+ghost use Rattle.esa_stash.specs.Stash.{contents};
 
 use crate::Stash;
-use crate::tests::{numbers, real};
+use crate::tests::real;
 use esa_report::Item;
 use std::alloc::{AllocError, Global};
 use std::process::Abort;
 use std::test::Fail;
 
-// Pairs of target and number, in the order in which they came.
+// Pairs of target and item, in the order in which they came.
 #[derive(Drop)]
 struct Plain {
     chunk: usize,
     room: usize,
-    held: Vec<(u32, u8)>,
+    held: Vec<(u32, Item)>,
 }
 
 impl Plain {
@@ -22,11 +23,11 @@ impl Plain {
     fn exchange(
         &mut self,
         alloc: Global,
-        handed: &[(u32, u8)],
-    ) -> Result<Result<Vec<(u32, u8)>, usize>, AllocError> {
+        handed: &[(u32, Item)],
+    ) -> Result<Result<Vec<(u32, Item)>, usize>, AllocError> {
         let mut line = self.held.clone()?;
         line.extend_from_slice(handed)?;
-        let mut passed: Vec<(u32, u8)> = Vec::new(alloc);
+        let mut passed: Vec<(u32, Item)> = Vec::new(alloc);
         let mut leaves = Vec::new(alloc);
         let mut stays = Vec::new(alloc);
         for pair in &line {
@@ -46,13 +47,13 @@ impl Plain {
     }
 }
 
-// The numbers of each target's pairs, with 0 up to the length of a chunk.
+// The items of each target's pairs, with dummies up to the length of a chunk.
 fn laid_out(
     alloc: Global,
-    pairs: &[(u32, u8)],
+    pairs: &[(u32, Item)],
     targets: u32,
     chunk: usize,
-) -> Result<Vec<u8>, AllocError> {
+) -> Result<Vec<Item>, AllocError> {
     let mut laid = Vec::new(alloc);
     for target in 0..targets {
         for pair in pairs {
@@ -61,13 +62,13 @@ fn laid_out(
             }
         }
         for _ in count(pairs, target)..chunk {
-            laid.push(0)?;
+            laid.push(Item::dummy())?;
         }
     }
     Ok(laid)
 }
 
-fn count(pairs: &[(u32, u8)], target: u32) -> usize {
+fn count(pairs: &[(u32, Item)], target: u32) -> usize {
     pairs.iter().filter(|pair| pair.0 == target).count()
 }
 
@@ -77,7 +78,7 @@ fn drawn(seed: u32) -> u32 {
 }
 
 // So many targets below a limit.
-fn drawn_targets(
+pub fn drawn_targets(
     alloc: Global,
     mut seed: u32,
     many: u32,
@@ -94,7 +95,7 @@ fn drawn_targets(
     Ok(targets)
 }
 
-// One exchange with both, which must give the same.
+// One exchange with both, which must give the same. Its items have its turn and their place.
 fn exchange_both(
     rt: &impl Abort,
     alloc: Global,
@@ -102,22 +103,23 @@ fn exchange_both(
     plain: &mut Plain,
     limit: u32,
     chunk: u32,
+    turn: u8,
     targets: &[u32],
 ) -> Result<(), AllocError>
-    requires targets { length stash.old.queues ≡ limit }
+    requires targets { length (contents stash.old).queues ≡ limit }
     requires chunk { stash.old.c ≡ chunk }
     requires below { All (λ target. target < limit) targets.now }
     requires small { limit * chunk < 2 ^ 32 }
-    ensures targets { IfOk result (λ _. length stash.new.queues ≡ limit) }
+    ensures targets { IfOk result (λ _. length (contents stash.new).queues ≡ limit) }
     ensures chunk { IfOk result (λ _. stash.new.c ≡ chunk) }
 {
     let mut items = Vec::new(alloc);
     let mut handed = Vec::new(alloc);
-    let mut number = 0u8;
+    let mut item = real(turn);
     for target in targets {
-        number = number.wrapping_add(1);
-        items.push(real(number))?;
-        handed.push((*target, number))?;
+        item.body[0] = item.body[0].wrapping_add(1);
+        items.push(item)?;
+        handed.push((*target, item))?;
     }
     let mut chunks = vec![in alloc; real(77); (limit * chunk) as usize]?;
     let mut counts = vec![in alloc; 77; limit as usize]?;
@@ -126,7 +128,7 @@ fn exchange_both(
         Ok(leaves) => {
             assert!(rt; mine.is_ok());
             let laid = laid_out(alloc, &leaves, limit, chunk as usize)?;
-            assert!(rt; numbers(alloc, &chunks)?.as_slice() == laid.as_slice());
+            assert!(rt; chunks.as_slice() == laid.as_slice());
             for (target, mine) in counts.iter().enumerate() {
                 assert_eq!(rt; *mine as usize, count(&leaves, target as u32));
             }
@@ -136,7 +138,7 @@ fn exchange_both(
                 mine.map_err(|overflow| overflow.total as usize),
                 Err(total)
             );
-            assert!(rt; numbers(alloc, &chunks)?.iter().all(|number| *number == 77));
+            assert!(rt; chunks.iter().all(|item| *item == real(77)));
             assert!(rt; counts.iter().all(|count| *count == 77));
         }
     }
@@ -162,10 +164,12 @@ fn run_both(
         room: room as usize,
         held: Vec::new(alloc),
     };
-    for turn in 0..60u32 {
-        let seed = drawn(turn);
+    for turn in 0..60u8 {
+        let seed = drawn(u32::from(turn));
         let targets = drawn_targets(alloc, seed, (seed >> 8) % (most + 1), limit)?;
-        exchange_both(rt, alloc, &mut stash, &mut plain, limit, chunk, &targets)?;
+        exchange_both(
+            rt, alloc, &mut stash, &mut plain, limit, chunk, turn, &targets,
+        )?;
         assert_eq!(rt;
             stash.cells().free() as usize + plain.held.len(),
             room as usize

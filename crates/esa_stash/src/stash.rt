@@ -1,9 +1,8 @@
 //! The stash: a queue of items for each target, in one arena.
 
 ghost use Rattle.std.specs.Prelude.{◌≡◌, ◌*◌, ◌≤◌, ◌<◌, ◌↔◌, List, [], ◌∷◌, ◌++◌, All, length, map, take, slice_set, IfOk, IfErr, IsOk, OnOk, OnErr};
-ghost use Rattle.esa_stash.specs.Arena.{queues_of};
-ghost use Rattle.esa_stash.specs.Stash.{Handed, Held, empty_stash, queue_at, padded, chunks as chunks_of, counts as counts_of, exchanged, total};
-ghost use Rattle.esa_stash.specs.Since.{IsSince, last_chunks, last_counts, total_backlog};
+ghost use Rattle.esa_stash.specs.Stash.{Handed, contents, empty_stash, without, queue_at, padded, chunks as chunks_of, counts as counts_of, exchanged, total};
+ghost use Rattle.esa_stash.specs.Since.{IsSince, tail, tail_length, last_chunks, last_counts, total_backlog};
 
 use crate::cells::Cells;
 use crate::{dealing, totals};
@@ -38,16 +37,14 @@ pub struct Stash {
     arriving: Vec<u64>,
 }
 
-// Clauses see the items of a chunk, how many items are held at most, and the queue of each target.
+// Clauses see the items of a chunk, and the arena: the cells of each queue, with their items, and the free cells.
 impl Model for Stash {
     ghost use Rattle.std.specs.Prelude.{length, ◌≡◌};
-    ghost use Rattle.esa_stash.specs.Stash.{Held};
+    ghost use Rattle.esa_stash.specs.Stash.{Stashed};
 
-    ghost Value = { Held };
+    ghost Value = { Stashed };
 
-    ghost use Rattle.esa_stash.specs.Arena.{queues_of};
-
-    ghost view = { λ s. record { c = s.chunk; s = s.cells.room; queues = queues_of s.cells } };
+    ghost view = { λ s. record { c = s.chunk; cells = s.cells } };
 
     ghost invariant = { λ s. (length s.cells.chains ≡ s.targets) × (length s.arriving.items ≡ s.targets) };
 }
@@ -55,8 +52,8 @@ impl Model for Stash {
 impl Stash {
     /// An empty stash for `b` targets, chunks of `c` items and at most `s` queued items.
     pub fn make(alloc: Global, b: u32, c: u32, s: u32) -> Result<Self, AllocError>
-        ensures empty { IfOk result (λ stash. stash ≡ empty_stash b c s) }
-        ensures since { IfOk result (λ stash. IsSince [] stash) }
+        ensures empty { IfOk result (λ stash. contents stash ≡ empty_stash b c s) }
+        ensures since { IfOk result (λ stash. IsSince [] (contents stash)) }
     {
         let cells = Cells::make(alloc, b, s)?;
         let arriving = vec![in alloc; 0; b as usize]?;
@@ -83,23 +80,23 @@ impl Stash {
         counts: &mut [u32],
     ) -> Result<(), Overflow>
         requires target_each { length items.now ≡ length targets.now }
-        requires below { All (λ target. target < length self.old.queues) targets.now }
-        requires places { length chunks.old ≡ length self.old.queues * self.old.c }
-        requires count_each { length counts.old ≡ length self.old.queues }
+        requires below { All (λ target. target < length (contents self.old).queues) targets.now }
+        requires places { length chunks.old ≡ length (contents self.old).queues * self.old.c }
+        requires count_each { length counts.old ≡ length (contents self.old).queues }
 
         // One exchange, by the queues as they were.
-        ensures fits { IsOk result ↔ (total (exchanged self.old (targets.now, items.now)) ≤ self.old.s) }
-        ensures queues { OnOk result (self.new ≡ exchanged self.old (targets.now, items.now)) }
-        ensures chunks { OnOk result (chunks.new ≡ chunks_of self.old (targets.now, items.now)) }
-        ensures counts { OnOk result (counts.new ≡ counts_of self.old (targets.now, items.now)) }
-        ensures overflow { IfErr result (λ e. e.total ≡ total (exchanged self.old (targets.now, items.now))) }
+        ensures fits { IsOk result ↔ (total (exchanged (contents self.old) (targets.now, items.now)) ≤ self.old.cells.room) }
+        ensures queues { OnOk result (contents self.new ≡ exchanged (contents self.old) (targets.now, items.now)) }
+        ensures chunks { OnOk result (chunks.new ≡ chunks_of (contents self.old) (targets.now, items.now)) }
+        ensures counts { OnOk result (counts.new ≡ counts_of (contents self.old) (targets.now, items.now)) }
+        ensures overflow { IfErr result (λ e. e.total ≡ total (exchanged (contents self.old) (targets.now, items.now))) }
 
         // The same by all that was handed over since the stash was empty, each time with Ok and no spill between.
-        ensures since { OnOk result ((all : List Handed) → IsSince all self.old → IsSince (all ++ (targets.now, items.now) ∷ []) self.new) }
-        ensures chunks_since { OnOk result ((all : List Handed) → IsSince all self.old → chunks.new ≡ last_chunks self.old all (targets.now, items.now)) }
-        ensures counts_since { OnOk result ((all : List Handed) → IsSince all self.old → counts.new ≡ last_counts self.old all (targets.now, items.now)) }
-        ensures fits_since { (all : List Handed) → IsSince all self.old → IsOk result ↔ (total_backlog self.old all (targets.now, items.now) ≤ self.old.s) }
-        ensures overflow_since { IfErr result (λ e. (all : List Handed) → IsSince all self.old → e.total ≡ total_backlog self.old all (targets.now, items.now)) }
+        ensures since { OnOk result ((all : List Handed) → IsSince all (contents self.old) → IsSince (all ++ (targets.now, items.now) ∷ []) (contents self.new)) }
+        ensures chunks_since { OnOk result ((all : List Handed) → IsSince all (contents self.old) → chunks.new ≡ last_chunks (contents self.old) all (targets.now, items.now)) }
+        ensures counts_since { OnOk result ((all : List Handed) → IsSince all (contents self.old) → counts.new ≡ last_counts (contents self.old) all (targets.now, items.now)) }
+        ensures fits_since { (all : List Handed) → IsSince all (contents self.old) → IsOk result ↔ (total_backlog (contents self.old) all (targets.now, items.now) ≤ self.old.cells.room) }
+        ensures overflow_since { IfErr result (λ e. (all : List Handed) → IsSince all (contents self.old) → e.total ≡ total_backlog (contents self.old) all (targets.now, items.now)) }
 
         ensures unchanged { OnErr result (self.new ≡ self.old) }
         ensures chunks_unchanged { OnErr result (chunks.new ≡ chunks.old) }
@@ -120,12 +117,21 @@ impl Stash {
     ///
     /// `Left` comes exactly where the queue is longer than `out`, and then all is as before.
     pub fn spill(&mut self, target: u32, out: &mut [Item]) -> Result<u32, Left>
-        requires { target < length self.old.queues }
-        ensures fits { IsOk result ↔ (length (queue_at self.old target) ≤ length out.old) }
-        ensures moved { OnOk result (out.new ≡ padded (length out.old) (queue_at self.old target)) }
-        ensures count { IfOk result (λ count. count ≡ length (queue_at self.old target)) }
-        ensures emptied { OnOk result (self.new ≡ record self.old { queues = slice_set self.old.queues target [] }) }
-        ensures left { IfErr result (λ left. left.held ≡ length (queue_at self.old target)) }
+        requires { target < length (contents self.old).queues }
+
+        // The queue as it was.
+        ensures fits { IsOk result ↔ (length (queue_at (contents self.old) target) ≤ length out.old) }
+        ensures moved { OnOk result (out.new ≡ padded (length out.old) (queue_at (contents self.old) target)) }
+        ensures count { IfOk result (λ count. count ≡ length (queue_at (contents self.old) target)) }
+        ensures emptied { OnOk result (contents self.new ≡ without (contents self.old) target) }
+        ensures left { IfErr result (λ left. left.held ≡ length (queue_at (contents self.old) target)) }
+
+        // The same by all that was handed over since the stash was empty, each time with Ok and no spill between.
+        ensures fits_since { (all : List Handed) → IsSince all (contents self.old) → IsOk result ↔ (tail_length self.old.c all target ≤ length out.old) }
+        ensures moved_since { OnOk result ((all : List Handed) → IsSince all (contents self.old) → out.new ≡ padded (length out.old) (tail self.old.c all target)) }
+        ensures count_since { IfOk result (λ count. (all : List Handed) → IsSince all (contents self.old) → count ≡ tail_length self.old.c all target) }
+        ensures left_since { IfErr result (λ left. (all : List Handed) → IsSince all (contents self.old) → left.held ≡ tail_length self.old.c all target) }
+
         ensures unchanged { OnErr result (self.new ≡ self.old) }
         ensures out_unchanged { OnErr result (out.new ≡ out.old) }
     {
@@ -141,8 +147,8 @@ impl Stash {
 
     /// Leaves all queues empty.
     pub fn clear(&mut self)
-        ensures empty { self.new ≡ empty_stash (length self.old.queues) self.old.c self.old.s }
-        ensures since { IsSince [] self.new }
+        ensures empty { contents self.new ≡ empty_stash (length (contents self.old).queues) self.old.c self.old.cells.room }
+        ensures since { IsSince [] (contents self.new) }
     {
         for target in 0..self.targets {
             dealing::empty(&mut self.cells, target);
@@ -151,8 +157,7 @@ impl Stash {
 
     /// The arena that holds the queues: chain i has queue i.
     pub fn cells(&self) -> &Cells
-        ensures room { result.now.room ≡ self.now.s }
-        ensures chains { queues_of result.now ≡ self.now.queues }
+        ensures { result.now ≡ self.now.cells }
     {
         &self.cells
     }

@@ -1,5 +1,6 @@
 //! Worked cases of the stash, and a stash that is a plain list of pairs beside it.
 
+use crate::plain::drawn_targets;
 use crate::{Cells, Left, Overflow, Stash};
 use esa_report::{Item, Kind};
 use std::alloc::{AllocError, Global};
@@ -81,6 +82,7 @@ fn arena_full(rt: HostRuntime) -> Result<(), Fail> {
     assert_eq!(rt; stash.cells().free(), 0);
     let done = stash.exchange(&[0, 0], &[real(13), real(14)], &mut chunks, &mut counts);
     assert_eq!(rt; done, Err(Overflow { total: 3 }));
+    assert_eq!(rt; stash.cells().free(), 0);
     assert_eq!(rt; numbers(alloc, &chunks)?.as_slice(), [10, 0].as_slice());
     assert_eq!(rt; counts, [1, 0]);
     let mut short = [real(7); 1];
@@ -90,6 +92,28 @@ fn arena_full(rt: HostRuntime) -> Result<(), Fail> {
     assert_eq!(rt; stash.spill(0, &mut enough), Ok(2));
     assert_eq!(rt; numbers(alloc, &enough)?.as_slice(), [11, 12].as_slice());
     assert_eq!(rt; stash.cells().free(), 2);
+    Ok(())
+}
+
+// An exchange of as many items as the largest batch has, all for one target.
+fn exchange_largest(alloc: Global, room: u32) -> Result<Result<(), Overflow>, AllocError> {
+    let mut stash = Stash::make(alloc, 1, 1, room)?;
+    let targets = drawn_targets(alloc, 0, 262_144, 1)?;
+    let items = vec![in alloc; real(10); targets.len()]?;
+    let mut chunks = [real(7); 1];
+    let mut counts = [9; 1];
+    Ok(stash.exchange(&targets, &items, &mut chunks, &mut counts))
+}
+
+// One of the items leaves, and the stash has room for the others or for one fewer.
+#[test]
+fn largest_batch(rt: HostRuntime) -> Result<(), Fail> {
+    let alloc = rt.alloc();
+    assert_eq!(rt; exchange_largest(alloc, 262_143)?, Ok(()));
+    assert_eq!(rt;
+        exchange_largest(alloc, 262_142)?,
+        Err(Overflow { total: 262_143 })
+    );
     Ok(())
 }
 

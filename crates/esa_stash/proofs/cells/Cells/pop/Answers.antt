@@ -6,9 +6,9 @@ use Rattle.std.proofs.lemmas.Bool.{true≢false}
 use Rattle.esa_report.specs.declared.item.Item.{Item}
 use Rattle.esa_report.specs.Item.{dummy_item}
 use Rattle.esa_stash.specs.Links.{Lists}
-use Rattle.esa_stash.specs.Arena.{Arena, popped, chain_at}
+use Rattle.esa_stash.specs.Arena.{Arena, IsShared, popped, chain_at}
 use Rattle.esa_stash.specs.Inside.{arena_of}
-use Rattle.esa_stash.proofs.Arenas.{cell_in_room, arena_of-popped, list_of_chain, first_held, none_held}
+use Rattle.esa_stash.proofs.Arenas.{IsShared-arena, cell_in_room, arena_of-popped, list_of_chain, first_held, none_held}
 use Rattle.esa_stash.proofs.cells.Cells.pop.Goals as goal
 use Rattle.esa_stash.proofs.cells.Cells.pop.Goals.{After-shift, In_ok-cell}
 
@@ -65,3 +65,12 @@ returns-clause-rest c =
     ap (λ (links : Lists). arena_of links fields.items.items) c.shift.ensures.lists
     ∙ arena_of-popped fields.links fields.items.items c.args.chain inside
     ∙ ap (λ (a : Arena). popped a c.args.chain) c.self.view_is
+
+shared : (c : After-shift) → IsShared c.args.self.now
+shared c = subst IsShared c.self.view_is (IsShared-arena c.self.inside.links c.self.inside.items.items c.self.invariant c.shift.ensures.partition)
+
+pub returns-in_err-cell-clause-shared : goal.returns-in_err-cell-clause-shared
+returns-in_err-cell-clause-shared c = shared (goal.at.returns-in_err-cell-clause-shared c).After-shift
+
+pub returns-clause-shared : goal.returns-clause-shared
+returns-clause-shared c = shared (goal.at.returns-clause-shared c).After-shift

@@ -5,7 +5,7 @@ use Rattle.std.proofs.lemmas.List.FromFn.{get_or-map-range_with_len, length-map-
 use Rattle.esa_stash.specs.Sizes.{below}
 use Rattle.esa_report.specs.declared.item.Item.{Item}
 use Rattle.esa_stash.specs.Arena.{items_in}
-use Rattle.esa_stash.specs.Stash.{Held, Handed, total, exchanged, chunks, counts}
+use Rattle.esa_stash.specs.Stash.{Stashed, Held, Handed, contents, total, exchanged, chunks, counts}
 use Rattle.esa_stash.specs.Since.{IsSince, total_backlog}
 use Rattle.esa_stash.specs.Dealing.{left_of, left_after, line_after, arrivals, AreDealt}
 use Rattle.esa_stash.proofs.TotalLemmas.{arrivals-le}
@@ -53,17 +53,17 @@ module _ (c : After-total_after-total) (is : c.count_targets.new.counts ≡ map 
       ∙ ap (λ (l : List ℕ). sum_by (left_after c.self.inside.cells c.self.inside.chunk l) (below c.self.inside.targets)) is
       ∙ total_of_lengths c.self.inside.cells c.self.inside.chunk c.self.inside.targets c.args.targets.now c.args.items.now c.self.invariant.0 c.requires.target_each
 
-  total_left : c.total_after-total.result ≡ total (exchanged c.args.self.now (c.args.targets.now, c.args.items.now))
+  total_left : c.total_after-total.result ≡ total (exchanged (contents c.args.self.now) (c.args.targets.now, c.args.items.now))
   total_left =
       lines_left
       ∙ sym (total_of_lines c.self.inside.cells c.self.inside.chunk c.self.inside.targets c.args.targets.now c.args.items.now c.self.invariant.0 c.requires.target_each)
-      ∙ ap (λ (held : Held). total (exchanged held (c.args.targets.now, c.args.items.now))) c.self.view_is
+      ∙ ap (λ (stash : Stashed). total (exchanged (contents stash) (c.args.targets.now, c.args.items.now))) c.self.view_is
 
-  backlog_left : (all : List Handed) → IsSince all c.args.self.now → c.total_after-total.result ≡ total_backlog c.args.self.now all (c.args.targets.now, c.args.items.now)
-  backlog_left all since = total_left ∙ total_is c.args.self.now all (c.args.targets.now, c.args.items.now) since
+  backlog_left : (all : List Handed) → IsSince all (contents c.args.self.now) → c.total_after-total.result ≡ total_backlog (contents c.args.self.now) all (c.args.targets.now, c.args.items.now)
+  backlog_left all since = total_left ∙ total_is (contents c.args.self.now) all (c.args.targets.now, c.args.items.now) since
 
-  room_is : c.room-room.result ≡ c.args.self.now.s
-  room_is = c.room-room.ensures.room ∙ ap (λ (held : Held). held.s) c.self.view_is
+  room_is : c.room-room.result ≡ c.args.self.now.cells.room
+  room_is = c.room-room.ensures.room ∙ ap (λ (stash : Stashed). stash.cells.room) c.self.view_is
 
 pub returns-then-total-from-clause-overflow : goal.returns-then-total-from-clause-overflow
 returns-then-total-from-clause-overflow c =
@@ -93,7 +93,7 @@ returns-then-total-from-clause-fits_since c all since =
 targets_are : (c : After-total_after-total) → length c.args.counts.now ≡ c.self.inside.targets
 targets_are c =
     c.requires.count_each
-    ∙ sym (ap (λ (held : Held). length held.queues) c.self.view_is)
+    ∙ sym (ap (λ (stash : Stashed). length (contents stash).queues) c.self.view_is)
     ∙ length-map c.self.inside.cells.chains items_in
     ∙ c.self.invariant.0
 
@@ -128,7 +128,7 @@ module _ (c : After-deal) (targets : length c.args.counts.now ≡ c.self.inside.
   long : length c.deal.new.chunks ≡ c.self.inside.targets * c.self.inside.chunk
   long =
       c.deal.auto.chunks ∙ c.requires.places
-      ∙ ap₂ (λ (n m : ℕ). n * m) (sym c.requires.count_each ∙ targets) (sym (ap (λ (held : Held). held.c) c.self.view_is))
+      ∙ ap₂ (λ (n m : ℕ). n * m) (sym c.requires.count_each ∙ targets) (sym (ap (λ (stash : Stashed). stash.c) c.self.view_is))
 
   count_each : length c.deal.new.counts ≡ c.self.inside.targets
   count_each = c.deal.auto.counts ∙ targets
@@ -136,21 +136,21 @@ module _ (c : After-deal) (targets : length c.args.counts.now ≡ c.self.inside.
   chains : length c.deal.new.cells.chains ≡ c.self.inside.targets
   chains = c.deal.ensures.chains ∙ c.self.invariant.0
 
-  seen_after : seen c.deal.new.cells c.self.inside.chunk ≡ exchanged c.args.self.now (c.args.targets.now, c.args.items.now)
+  seen_after : seen c.deal.new.cells c.self.inside.chunk ≡ exchanged (contents c.args.self.now) (c.args.targets.now, c.args.items.now)
   seen_after =
       let held : ℕ → List (List Item) → Held = λ s queues. record { c = c.self.inside.chunk; s = s; queues = queues } in
       ap₂ held c.deal.ensures.cells (queues_left c.self.inside.cells c.self.inside.chunk c.self.inside.targets c.args.targets.now c.args.items.now c.self.invariant.0 c.requires.target_each c.deal.new.cells c.deal.new.chunks c.deal.new.counts long count_each chains dealt)
-      ∙ ap (λ (held : Held). exchanged held (c.args.targets.now, c.args.items.now)) c.self.view_is
+      ∙ ap (λ (stash : Stashed). exchanged (contents stash) (c.args.targets.now, c.args.items.now)) c.self.view_is
 
-  chunks_after : c.deal.new.chunks ≡ chunks c.args.self.now (c.args.targets.now, c.args.items.now)
+  chunks_after : c.deal.new.chunks ≡ chunks (contents c.args.self.now) (c.args.targets.now, c.args.items.now)
   chunks_after =
       chunks_left c.self.inside.cells c.self.inside.chunk c.self.inside.targets c.args.targets.now c.args.items.now c.self.invariant.0 c.requires.target_each c.deal.new.cells c.deal.new.chunks c.deal.new.counts long count_each chains dealt
-      ∙ ap (λ (held : Held). chunks held (c.args.targets.now, c.args.items.now)) c.self.view_is
+      ∙ ap (λ (stash : Stashed). chunks (contents stash) (c.args.targets.now, c.args.items.now)) c.self.view_is
 
-  counts_after : c.deal.new.counts ≡ counts c.args.self.now (c.args.targets.now, c.args.items.now)
+  counts_after : c.deal.new.counts ≡ counts (contents c.args.self.now) (c.args.targets.now, c.args.items.now)
   counts_after =
       counts_left c.self.inside.cells c.self.inside.chunk c.self.inside.targets c.args.targets.now c.args.items.now c.self.invariant.0 c.requires.target_each c.deal.new.cells c.deal.new.chunks c.deal.new.counts long count_each chains dealt
-      ∙ ap (λ (held : Held). counts held (c.args.targets.now, c.args.items.now)) c.self.view_is
+      ∙ ap (λ (stash : Stashed). counts (contents stash) (c.args.targets.now, c.args.items.now)) c.self.view_is
 
 pub returns-clause-queues : goal.returns-clause-queues
 returns-clause-queues c =
@@ -171,14 +171,14 @@ pub returns-clause-since : goal.returns-clause-since
 returns-clause-since c all since =
     let at = goal.at.returns-clause-since c in
     let handed : Handed = (c.args.targets.now, c.args.items.now) in
-    subst (IsSince (all ++ handed ∷ [])) (sym (seen_after at.After-deal (targets_are at.After-total_after-total))) (IsSince-more c.args.self.now all handed since)
+    subst (IsSince (all ++ handed ∷ [])) (sym (seen_after at.After-deal (targets_are at.After-total_after-total))) (IsSince-more (contents c.args.self.now) all handed since)
 
 pub returns-clause-chunks_since : goal.returns-clause-chunks_since
 returns-clause-chunks_since c all since =
     let at = goal.at.returns-clause-chunks_since c in
-    chunks_after at.After-deal (targets_are at.After-total_after-total) ∙ chunks_are c.args.self.now all (c.args.targets.now, c.args.items.now) since
+    chunks_after at.After-deal (targets_are at.After-total_after-total) ∙ chunks_are (contents c.args.self.now) all (c.args.targets.now, c.args.items.now) since
 
 pub returns-clause-counts_since : goal.returns-clause-counts_since
 returns-clause-counts_since c all since =
     let at = goal.at.returns-clause-counts_since c in
-    counts_after at.After-deal (targets_are at.After-total_after-total) ∙ counts_are c.args.self.now all (c.args.targets.now, c.args.items.now) since
+    counts_after at.After-deal (targets_are at.After-total_after-total) ∙ counts_are (contents c.args.self.now) all (c.args.targets.now, c.args.items.now) since
