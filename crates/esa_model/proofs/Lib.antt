@@ -3,6 +3,7 @@ pub mod CountLemmas
 pub mod ForetellLemmas
 pub mod LineLemmas
 pub mod ReadBack
+pub mod Reading
 pub mod SeatLemmas
 pub mod SpreadLemmas
 pub mod StandLemmas

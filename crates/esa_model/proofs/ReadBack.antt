@@ -15,11 +15,12 @@ use Rattle.esa_bytes.proofs.DecimalLemmas.{own, decimal_in-decimal_of}
 use Rattle.esa_bytes.proofs.LineLemmas.{text_lines-line}
 use Rattle.esa_spec.specs.Files.{turn_line, next_line, turns_bytes}
 use Rattle.esa_model.specs.Drafts.{Begun, can_come, lists_of, turns_in, with_word}
-use Rattle.esa_model.specs.Turns.{AreWorkers, CanRead, read_from, turns_of}
+use Rattle.esa_model.specs.Turns.{AreWorkers, CanRead, turns_of}
 use Rattle.esa_model.specs.Words.{turn_of, word_in}
 use Rattle.esa_model.specs.declared.turns.TurnsRefused.{TurnsRefused}
 use Rattle.esa_model.specs.declared.turns.TurnsRefused.TheVariants.{OutOfMemory}
 use Rattle.esa_model.specs.declared.word.Word.TheVariants.{Turn, Next}
+use Rattle.esa_model.proofs.Reading.{read_all, read_from}
 use Rattle.esa_model.proofs.TurnLemmas.{good_line}
 
 -- digits are no newline
@@ -112,7 +113,9 @@ read-lists workers attempts h (g ∷ hs) ended small are few lists number =
 pub turns-back : (workers attempts : ℕ) (lists : List (List ℕ)) → workers ≤ 2 ^ 64 → CanRead workers attempts lists
     → turns_of workers attempts (turns_bytes lists) ≡ Ok lists
 turns-back workers attempts [] small can = absurd (omega (arith, can.some))
-turns-back workers attempts (h ∷ hs) small can = read-lists workers attempts h hs [] small can.workers (omega (arith, can.turns)) (omega (arith, can.lists)) 1
+turns-back workers attempts (h ∷ hs) small can =
+    sym (read_all workers attempts (turns_bytes (h ∷ hs)))
+    ∙ read-lists workers attempts h hs [] small can.workers (omega (arith, can.turns)) (omega (arith, can.lists)) 1
 
 -- what a reader gives, where the file says lists
 pub read-as : (result : Result (List (List ℕ)) TurnsRefused) (lists : List (List ℕ)) (said : Result (List (List ℕ)) TurnsRefused) → said ≡ Ok lists

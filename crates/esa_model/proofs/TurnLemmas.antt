@@ -8,7 +8,8 @@ use Rattle.std.specs.Option.{option_map_or}
 use Rattle.std.specs.Prelude.{All}
 use Rattle.esa_model.specs.declared.turns.TurnsRefused.TheVariants.{Line}
 use Rattle.esa_model.specs.Drafts.{Begun, can_come, lists_of, none_begun, turns_in, with_word}
-use Rattle.esa_model.specs.Turns.{AreBegun, AreWorkers, read_from, with_line}
+use Rattle.esa_model.specs.Turns.{AreWorkers}
+use Rattle.esa_model.proofs.Reading.{AreBegun, read_from, with_line}
 use Rattle.esa_model.specs.Words.{IsTurnOf, word_in}
 use Rattle.esa_model.specs.declared.word.Word.{Word}
 use Rattle.esa_model.specs.declared.word.Word.TheVariants.{Turn, Next}

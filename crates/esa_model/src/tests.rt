@@ -1,7 +1,8 @@
 //! Turns files, and the worked cases through a turns file and the predictor.
 
-use crate::{Predictor, StoredCoins, Turns, TurnsRefused, Verdict};
+use crate::{Forecast, Predictor, StoredCoins, Turns, TurnsRefused, Verdict};
 use esa_params::{Form, Params, Plan, check};
+use esa_spec::Coins;
 use std::alloc::{AllocError, Global};
 use std::test::Fail;
 
@@ -19,7 +20,7 @@ queue_overflow 4 2 2 0 0 1 3 1 1 0000 - QueueOverflow(0) 13
 empty_buckets 1 4 1 0 0 4 1 1 1 3 - Good 60
 repeated_envelope 3 2 2 0 0 2 3 1 1 000 - Good 22
 second_attempt 4 2 1 0 1 2 4 1 2 00100101 - StashOverflow(0),Good 23
-more_turns_than_needed 4 2 1 2 1 2 4 1 1 0010 0/0/0/0/0/0/0/0/0/0/0/0 Good 22
+second_attempt_by_turns 4 2 1 0 1 2 4 2 2 00100101 1/0/next/1/1/1/0/ StashOverflow(0),Good 24
 ";
 
 // Turns files: the numbers of workers and of attempts, the file, and its lists or the line that is refused.
@@ -129,6 +130,92 @@ fn worked_cases(rt: HostRuntime) -> Result<(), Fail> {
         let wanted = format!(in rt.alloc(); "{ends} {count}")?;
         assert_eq!(rt; found.as_str(), wanted.as_str(), "{name}");
     }
+    Ok(())
+}
+
+// Four records in two buckets with no stash, for two workers and two attempts.
+fn twice(alloc: Global, targets: &str) -> Result<StoredCoins, Fail> {
+    let params = Params {
+        b: 2,
+        c: 1,
+        s: 0,
+        k: 1,
+        w: 2,
+        q: 4,
+        workers: 2,
+        attempts: 2,
+    };
+    let plan = plan_of(4, &params).ok_or("a plan")?;
+    let coins = StoredCoins::of(plan, digits_of(alloc, targets)?).ok_or("coins")?;
+    Ok(coins)
+}
+
+// A forecast in one line: how the attempts end, and the nonces of the accesses.
+fn told(alloc: Global, forecast: &Forecast) -> Result<String, AllocError> {
+    let mut text = ends_of(alloc, forecast.verdicts())?;
+    for access in forecast.accesses() {
+        let word = format!(in alloc; " {}", access.nonce)?;
+        text.push_str(word.as_str())?;
+    }
+    Ok(text)
+}
+
+// Two attempts, each by its own list of turns: bucket 1 is read first in the first one, and bucket 0 in the second one. A
+// chunk of the second one has a nonce of 4,294,967,296 and more. One predictor forecasts this, then what other coins
+// draw, and then the first again.
+#[test]
+fn forecasts_one_after_another(rt: HostRuntime) -> Result<(), Fail> {
+    let failing = twice(rt.alloc(), "00100101")?;
+    let good = twice(rt.alloc(), "01010010")?;
+    let file = file_of(rt.alloc(), "1/0/next/1/1/1/0/")?;
+    let Ok(turns) = Turns::read(rt.alloc(), &file, 2, 2) else {
+        return Err(Fail::from("a turns file"));
+    };
+    let mut predictor = Predictor::make(rt.alloc(), failing.plan())?;
+    let wanted = "StashOverflow(0),Good 0 1 1 0 0 1 4294967298 4294967299 4294967300 4294967301 \
+        4294967302 4294967303 4294967298 4294967300 4294967302 4294967299 4294967301 4294967303 \
+        4294967304 4294967305 4294967304 4294967305 4294967304 4294967305";
+    let first = told(rt.alloc(), predictor.run(&failing, &turns))?;
+    assert_eq!(rt; first.as_str(), wanted);
+    let other = told(rt.alloc(), predictor.run(&good, &turns))?;
+    assert_eq!(rt;
+        other.as_str(),
+        "Good 0 1 1 0 4 2 5 3 6 7 2 4 6 3 5 7 8 9 8 9 8 9"
+    );
+    let again = told(rt.alloc(), predictor.run(&failing, &turns))?;
+    assert_eq!(rt; again.as_str(), wanted);
+    Ok(())
+}
+
+// A hundred turns more than are needed: the accesses are those of `base`, whose nonces are the numbers of its slots.
+#[test]
+fn more_turns_than_needed(rt: HostRuntime) -> Result<(), Fail> {
+    let params = Params {
+        b: 2,
+        c: 1,
+        s: 2,
+        k: 1,
+        w: 2,
+        q: 4,
+        workers: 1,
+        attempts: 1,
+    };
+    let plan = plan_of(4, &params).ok_or("a plan")?;
+    let coins = StoredCoins::of(plan, digits_of(rt.alloc(), "0010")?).ok_or("coins")?;
+    let mut file = Vec::new(rt.alloc());
+    for _turn in 0..110 {
+        file.extend_from_slice(b"0\n")?;
+    }
+    let Ok(turns) = Turns::read(rt.alloc(), &file, 1, 1) else {
+        return Err(Fail::from("a turns file"));
+    };
+    assert_eq!(rt; turns.list(0).len(), 110);
+    let mut predictor = Predictor::make(rt.alloc(), plan)?;
+    let found = told(rt.alloc(), predictor.run(&coins, &turns))?;
+    assert_eq!(rt;
+        found.as_str(),
+        "Good 0 1 0 2 3 1 4 5 6 7 2 4 6 3 5 7 8 9 8 9 8 9"
+    );
     Ok(())
 }
 

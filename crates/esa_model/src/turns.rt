@@ -80,7 +80,7 @@ impl Turns {
     }
 
     // Reads the lists of a turns file line by line.
-    #[tactic(auto, using(crate::proofs::TurnLemmas::begun_with_word, crate::proofs::TurnLemmas::workers_begun, crate::proofs::TurnLemmas::none_begun_workers))]
+    #[tactic(auto, using(crate::proofs::TurnLemmas::begun_with_word, crate::proofs::TurnLemmas::workers_begun, crate::proofs::TurnLemmas::none_begun_workers, crate::proofs::Reading::read_all))]
     fn read_lines(
         alloc: Global,
         bytes: &[u8],

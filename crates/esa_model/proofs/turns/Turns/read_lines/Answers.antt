@@ -2,7 +2,7 @@ use Rattle.std.proofs.Common.{◌≡◌, ◌+◌, drop, ap, sym, ◌∙◌, subs
 use Rattle.std.specs.Prelude.{slice_range}
 use Rattle.esa_bytes.specs.Lines.{text_lines}
 use Rattle.esa_model.specs.Drafts.{Begun, with_word}
-use Rattle.esa_model.specs.Turns.{AreBegun, read_from}
+use Rattle.esa_model.proofs.Reading.{AreBegun, read_from}
 use Rattle.esa_model.proofs.TurnLemmas.{begun_with_word, good_line}
 use Rattle.esa_model.proofs.turns.Turns.read_lines.Goals as goal
 

@@ -1,6 +1,7 @@
 use Rattle.std.proofs.Common.{◌≡◌, ◌≤◌, length, drop, ◌+◌, ◌-◌}
 use Rattle.esa_bytes.specs.Lines.{text_lines}
-use Rattle.esa_model.specs.Turns.{turns_of, read_from, AreBegun}
+use Rattle.esa_model.specs.Turns.{turns_of}
+use Rattle.esa_model.proofs.Reading.{AreBegun, read_from}
 use Rattle.esa_model.proofs.turns.Turns.read_lines.Given as goal
 
 abbrev pub invariant-loop-line : goal.invariant-loop-line
