@@ -5,3 +5,4 @@ pub mod Marks
 pub mod EachLaws
 pub mod ListLemmas
 pub mod TableReading
+pub mod StreamLaws
