@@ -1,5 +1,5 @@
 -- Streams of one number serve one purpose, in one attempt, of one bucket or target.
-use Rattle.std.proofs.Common.{◌≡◌, ℕ, ◌+◌, ◌*◌, ◌^◌, ◌<◌, ◌≤◌, refl, arith}
+use Rattle.std.proofs.Common.{◌≡◌, ℕ, ◌^◌, ◌<◌, refl, arith}
 use Rattle.esa_params.specs.Sizes.{Sizes, ArePlanned}
 use Rattle.esa_coins.specs.Streams.{Purpose, ForTargets, ForOrder, ForSeparators, stream_number}
 
