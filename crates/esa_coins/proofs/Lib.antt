@@ -5,3 +5,5 @@ pub mod Marks
 pub mod EachLaws
 pub mod ListLemmas
 pub mod TableReading
+pub mod Separate
+pub mod StreamLaws

@@ -1,4 +1,5 @@
 pub use Rattle.esa_params.specs.Sizes
+pub mod Streams
 pub mod Seeded
 pub mod Words
 pub mod Shuffled

@@ -1,5 +1,6 @@
 -- What a seed draws, by the definitions of its generator and of the draws from it.
-use Rattle.std.specs.Prelude.{ℕ, zero, suc, ◌+◌, ◌-◌, ◌*◌, ◌^◌, ◌==◌, nat_le, List, [], ◌∷◌, map, if◌then◌else◌}
+use Rattle.std.specs.Prelude.{ℕ, zero, suc, ◌+◌, ◌-◌, ◌*◌, ◌^◌, ◌==◌, nat_le, List, [], ◌∷◌, map, count_by}
+use Rattle.std.specs.List.{before_first}
 use Rattle.rand_core.specs.Stream.{Stream, next_u32}
 use Rattle.rand_core.specs.Steps.{stream_of, steps_u32}
 use Rattle.rand_chacha.specs.ChaCha.{next_word, of_seed}
@@ -8,6 +9,7 @@ use Rattle.rand.specs.Uniform.{canon}
 use Rattle.esa_params.specs.Sizes.{Sizes, size, below}
 use Rattle.esa_job.specs.declared.value.Draw.{Draw}
 use Rattle.esa_job.specs.declared.value.Draw.TheVariants.{Single, Separators}
+use Rattle.esa_coins.specs.Streams.{ForTargets, ForOrder, ForSeparators, stream_number}
 
 -- a seed, how targets are drawn from it, and for which plan
 pub record Seeds : Type 0 where
@@ -31,31 +33,17 @@ abbrev pub shuffled_below : ℕ → Stream → List ℕ
 shuffled_below n words = (shuffled (below n) 0 words).0
 
 -- how many separators, which are the entries from n on, stand before the entry x
-unfoldable pub separators_before : ℕ → ℕ → List ℕ → ℕ
-separators_before n x [] = 0
-separators_before n x (entry ∷ entries) =
-    if entry == x then 0
-    else if nat_le n entry then 1 + separators_before n x entries
-    else separators_before n x entries
+abbrev pub separators_before : ℕ → ℕ → List ℕ → ℕ
+separators_before n x entries = count_by (λ entry. nat_le n entry) (before_first (λ entry. entry == x) entries)
 
 -- for each of n entries the number of separators that stand before it
 abbrev pub separated : ℕ → List ℕ → List ℕ
 separated n entries = map (λ x. separators_before n x entries) (below n)
 
--- the numbers of the streams, which are all different
-abbrev pub target_stream : ℕ → ℕ → ℕ
-target_stream attempt bucket = attempt * 2 ^ 32 + bucket
-
-abbrev pub order_stream : ℕ → ℕ → ℕ
-order_stream attempt target = attempt * 2 ^ 32 + 2 ^ 16 + target
-
-abbrev pub separator_stream : ℕ → ℕ → ℕ
-separator_stream attempt bucket = attempt * 2 ^ 32 + bucket + 2 ^ 17
-
 -- the targets of n places of a bucket
 abbrev pub targets_by : Draw → List ℕ → ℕ → ℕ → ℕ → ℕ → List ℕ
-targets_by Single seed b n attempt bucket = drawn_below n b (stream_at seed (target_stream attempt bucket))
-targets_by Separators seed b n attempt bucket = separated n (shuffled_below (n + b - 1) (stream_at seed (separator_stream attempt bucket)))
+targets_by Single seed b n attempt bucket = drawn_below n b (stream_at seed (stream_number ForTargets attempt bucket))
+targets_by Separators seed b n attempt bucket = separated n (shuffled_below (n + b - 1) (stream_at seed (stream_number ForSeparators attempt bucket)))
 
 abbrev pub seeded_targets : Seeds → ℕ → ℕ → List ℕ
 seeded_targets coins attempt bucket =
@@ -63,4 +51,4 @@ seeded_targets coins attempt bucket =
 
 abbrev pub seeded_order : Seeds → ℕ → ℕ → List ℕ
 seeded_order coins attempt target =
-    shuffled_below (coins.plan.b * coins.plan.c + coins.plan.k) (stream_at coins.seed (order_stream attempt target))
+    shuffled_below (coins.plan.b * coins.plan.c + coins.plan.k) (stream_at coins.seed (stream_number ForOrder attempt target))

@@ -16,6 +16,7 @@ mod lists;
 mod orders;
 mod refused;
 mod seeded;
+mod streams;
 mod table;
 #[cfg(test)]
 mod tests;
@@ -26,4 +27,5 @@ pub use esa_job::Draw;
 pub use esa_spec::Coins;
 pub use refused::CoinsRefused;
 pub use seeded::SeededCoins;
+pub use streams::streams_differ;
 pub use table::TableCoins;

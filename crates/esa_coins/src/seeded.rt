@@ -10,7 +10,8 @@ use esa_spec::Coins;
 /// Coins that are drawn from a seed of 32 bytes, by ChaCha20.
 ///
 /// Each bucket's targets, each bucket's separators and each target's order have a stream of their own: in attempt a
-/// these are the streams `a * 2^32 + b`, `a * 2^32 + 2^17 + b` and `a * 2^32 + 2^16 + b`.
+/// these are the streams `a * 2^32 + b`, `a * 2^32 + 2^17 + b` and `a * 2^32 + 2^16 + b`. No two of them have the same
+/// number (`streams_differ`).
 #[derive(Clone, Copy, Debug)]
 pub struct SeededCoins {
     seed: [u8; 32],

@@ -1,6 +1,8 @@
 // Drawn numbers are those that `tests/draw.py` draws from the published algorithms.
 use crate::check::import_places;
-use crate::{Coins, CoinsRefused, Draw, SeededCoins, TableCoins, order_holds, targets_hold};
+use crate::{
+    AnyCoins, Coins, CoinsRefused, Draw, SeededCoins, TableCoins, order_holds, targets_hold,
+};
 use esa_params::{Form, Params, Plan, check};
 use std::alloc::{AllocError, Global};
 use std::test::Fail;
@@ -103,15 +105,27 @@ fn separator_targets(rt: HostRuntime) -> Result<(), Fail> {
             wanted
         );
     }
-    let one = plan_of(1, 4, 0, 1, 4).ok_or("a plan")?;
-    let coins = SeededCoins::make(seed(), Draw::Separators, one);
+    Ok(())
+}
+
+#[test]
+fn separators_of_one_bucket(rt: HostRuntime) -> Result<(), Fail> {
+    let plan = plan_of(1, 4, 0, 1, 4).ok_or("a plan")?;
+    let coins = SeededCoins::make(seed(), Draw::Separators, plan);
     assert_eq!(rt;
         targets_of(rt.alloc(), &coins, 0, 0)?.as_slice(),
         [0, 0, 0, 0].as_slice()
     );
-    let empty = plan_of(4, 1, 0, 1, 1).ok_or("a plan")?;
-    let coins = SeededCoins::make(seed(), Draw::Separators, empty);
+    Ok(())
+}
+
+// A bucket without places has no targets, though there are separators to shuffle.
+#[test]
+fn separators_of_an_empty_bucket(rt: HostRuntime) -> Result<(), Fail> {
+    let plan = plan_of(4, 1, 0, 1, 1).ok_or("a plan")?;
+    let coins = SeededCoins::make(seed(), Draw::Separators, plan);
     assert!(rt; targets_of(rt.alloc(), &coins, 0, 3)?.is_empty());
+    assert!(rt; all_hold(rt.alloc(), &coins, 0, 3)?);
     Ok(())
 }
 
@@ -129,6 +143,26 @@ fn orders(rt: HostRuntime) -> Result<(), Fail> {
                 order_of(rt.alloc(), &coins, attempt, target)?.as_slice(),
                 wanted
             );
+        }
+    }
+    Ok(())
+}
+
+// Two coins of one seed give the same lists, and lists from two streams of it differ.
+#[test]
+fn one_seed_and_its_streams(rt: HostRuntime) -> Result<(), Fail> {
+    let alloc = rt.alloc();
+    let plan = plan_of(3, 4, 1, 2, 22).ok_or("a plan")?;
+    for draw in [Draw::Single, Draw::Separators] {
+        let coins = SeededCoins::make(seed(), draw, plan);
+        let again = SeededCoins::make(seed(), draw, plan);
+        let first = targets_of(alloc, &coins, 0, 0)?;
+        let order = order_of(alloc, &coins, 0, 0)?;
+        assert!(rt; targets_of(alloc, &again, 0, 0)?.as_slice() == first.as_slice());
+        assert!(rt; order_of(alloc, &again, 0, 0)?.as_slice() == order.as_slice());
+        for (attempt, bucket) in [(0, 1), (1, 0), (1, 1)] {
+            assert!(rt; targets_of(alloc, &again, attempt, bucket)?.as_slice() != first.as_slice());
+            assert!(rt; order_of(alloc, &again, attempt, bucket)?.as_slice() != order.as_slice());
         }
     }
     Ok(())
@@ -178,6 +212,8 @@ fn coins_hold(rt: HostRuntime) -> Result<(), Fail> {
         let coins = SeededCoins::make(seed(), draw, plan);
         for (attempt, bucket) in [(0, 0), (0, 2), (1, 1)] {
             assert!(rt; all_hold(rt.alloc(), &coins, attempt, bucket)?);
+            let either = AnyCoins::Seeded(coins);
+            assert!(rt; all_hold(rt.alloc(), &either, attempt, bucket)?);
         }
     }
     Ok(())
@@ -215,6 +251,18 @@ fn coins_files(rt: HostRuntime) -> Result<(), Fail> {
         let found = answer(rt.alloc(), plan, file.as_bytes())?;
         assert_eq!(rt; found.as_str(), wanted, "{line}");
     }
+    Ok(())
+}
+
+// The coins in which the order of target 0 names place 0 twice.
+#[test]
+fn coins_of_first_refusals(rt: HostRuntime) -> Result<(), Fail> {
+    let plan = small_plan(1).ok_or("a plan")?;
+    let file = br#"{"attempts":[{"targets":[0,0,1,0],"orders":[[0,0,1],[0,1,2]]}]}"#;
+    assert_eq!(rt;
+        answer(rt.alloc(), plan, file.as_slice())?.as_str(),
+        "order 0 0"
+    );
     Ok(())
 }
 
@@ -272,5 +320,7 @@ fn lists_of_a_coins_file(rt: HostRuntime) -> Result<(), Fail> {
         assert_eq!(rt; found.as_slice(), order.as_slice());
         assert!(rt; all_hold(alloc, &coins, attempt, bucket)?);
     }
+    let either = AnyCoins::Table(coins);
+    assert!(rt; all_hold(alloc, &either, 1, 0)?);
     Ok(())
 }
