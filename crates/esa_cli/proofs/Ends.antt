@@ -1,9 +1,8 @@
 -- A command ends as its taking in stops, or as the work that it owes ends.
-use Rattle.std.proofs.Common.{◌≡◌, ◌≢◌, ◌⊎◌, ℕ, List, [], ◌++◌, Option, Some, None, refl, sym, ap, ◌∙◌, subst, inl, inr, ⊎_elim}
+use Rattle.std.proofs.Common.{◌≡◌, ◌≢◌, ◌⊎◌, ℕ, List, [], Option, Some, None, refl, sym, ap, ◌∙◌, subst, inl, inr, ⊎_elim}
 use Rattle.std.specs.Prelude.{Result, Ok, Err, IsSome}
 use Rattle.esa_lists.specs.Files.{Files}
 use Rattle.esa_outside.specs.Cause.{Rose}
-use Rattle.esa_outside.specs.declared.Role.{Role}
 use Rattle.esa_cli.specs.declared.source.Source.{Source}
 use Rattle.esa_cli.specs.declared.source.Source.TheVariants as source
 use Rattle.esa_cli.specs.declared.stop.Sink.{Sink}
@@ -12,11 +11,11 @@ use Rattle.esa_cli.specs.declared.status.Status.TheVariants as status
 use Rattle.esa_cli.specs.declared.stop.Stop.{Stop}
 use Rattle.esa_cli.specs.declared.stop.Stop.TheVariants.{Refused, Unread, OutOfMemory, Unwritten, Unprinted}
 use Rattle.esa_cli.specs.Source.{role_of}
-use Rattle.esa_cli.specs.Step.{Step, ◌>>=◌, accepted, refused, missing, Reads, reads_of, without}
+use Rattle.esa_cli.specs.Step.{Step, ◌>>=◌, accepted, Reads, reads_of, without}
 use Rattle.esa_cli.specs.Judged.{StopsBy, Counted}
 use Rattle.esa_cli.specs.Work.{Work, Performs, PrintsAll, WorkCounted, LineCounted, BreaksAt}
 use Rattle.esa_cli.specs.Ends.{Does, Ends}
-use Rattle.esa_cli.specs.Explains.{Accepts, IsUnread, IsFault, Explains, FaultCounted, EndCounted, PrinterCounted, IsOwed, HasPrinted, status_of, ending, role_of_sink}
+use Rattle.esa_cli.specs.Explains.{IsUnread, IsFault, Explains, FaultCounted, EndCounted, PrinterCounted, IsOwed, HasPrinted, status_of, ending, role_of_sink}
 
 -- ---- the taking in stops
 

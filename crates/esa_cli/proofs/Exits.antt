@@ -1,5 +1,5 @@
 -- Where a later step ends the taking in, the steps as a whole end so too.
-use Rattle.std.proofs.Common.{◌≡◌, ◌⊎◌, ℕ, Bool, true, false, cond, List, length, Option, Some, None, refl, sym, ap, ◌∙◌, subst, inl, inr, ⊎_elim}
+use Rattle.std.proofs.Common.{◌≡◌, ◌⊎◌, ℕ, true, false, cond, List, length, Option, Some, None, sym, ap, ◌∙◌, subst, inl, inr, ⊎_elim}
 use Rattle.std.specs.Prelude.{nat_lt}
 use Rattle.esa_job.specs.declared.command.Command.{Command}
 use Rattle.esa_outside.specs.Cause.{Rose}

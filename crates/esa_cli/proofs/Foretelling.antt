@@ -10,9 +10,9 @@ use Rattle.esa_cli.specs.declared.refusal.Refusal.TheVariants as refusal
 use Rattle.esa_cli.specs.declared.source.Source.{Source}
 use Rattle.esa_cli.specs.declared.source.Source.TheVariants as source
 use Rattle.esa_cli.specs.Forecast.{sizes_asked, seeds_asked, seeded_draws, table_draws, where_named, read_turns, turns_file, read_coins, coins_file}
-use Rattle.esa_cli.specs.Step.{Step, ◌>>=◌, accepted, refused, missing, Reads}
+use Rattle.esa_cli.specs.Step.{Step, ◌>>=◌, accepted, missing, Reads}
 use Rattle.esa_cli.specs.Taking.{read_step}
-use Rattle.esa_cli.proofs.Exits.{MissesOnly, ReadsNothing, misses_file}
+use Rattle.esa_cli.proofs.Exits.{MissesOnly, misses_file}
 use Rattle.esa_cli.proofs.TakingExits.{read_pure}
 
 misses_named : {A : Type 0} (source : Source) (name : Option (List ℕ)) (step : Reads → List ℕ → Step A) (otherwise : A) → ((named : List ℕ) → MissesOnly source (λ read. step read named)) → MissesOnly source (λ read. where_named name (step read) otherwise)

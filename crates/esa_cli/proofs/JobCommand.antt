@@ -4,7 +4,6 @@ use Rattle.std.specs.Prelude.{Ok, option_map}
 use Rattle.esa_json.specs.Data.{Data}
 use Rattle.esa_json.specs.Object.{object_of}
 use Rattle.esa_job.specs.declared.command.Command.{Command}
-use Rattle.esa_job.specs.declared.job.JobRefused.{JobRefused}
 use Rattle.esa_job.specs.Request.{Request}
 use Rattle.esa_job.specs.Refusal.{job_of, read_job, refusal_of, unless}
 

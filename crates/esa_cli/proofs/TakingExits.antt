@@ -7,7 +7,7 @@ use Rattle.esa_job.specs.Request.{Request}
 use Rattle.esa_cli.specs.declared.refusal.Refusal.{Refusal}
 use Rattle.esa_cli.specs.declared.source.Source.{Source}
 use Rattle.esa_cli.specs.declared.source.Source.TheVariants as source
-use Rattle.esa_cli.specs.Step.{Step, accepted, refused, missing}
+use Rattle.esa_cli.specs.Step.{missing}
 use Rattle.esa_cli.specs.Taking.{name_of, read_step, job_file, keys_file, forward_file, database_file}
 use Rattle.esa_cli.proofs.Exits.{MissesOnly, ReadsNothing, misses_file}
 

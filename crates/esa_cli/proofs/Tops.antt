@@ -1,20 +1,18 @@
 -- What the status's own line changes of how a call ended.
-use Rattle.std.proofs.Common.{◌≡◌, ◌⊎◌, ℕ, zero, suc, Bool, true, false, List, [], ◌++◌, take, length, Option, Some, None, refl, sym, ap, ◌∙◌, subst, inl, inr, ⊎_elim, append-nil}
-use Rattle.std.specs.Prelude.{IsTrue, IsSome}
+use Rattle.std.proofs.Common.{◌≡◌, ◌⊎◌, ℕ, zero, suc, true, false, List, [], ◌++◌, take, Option, Some, None, refl, sym, ap, ◌∙◌, subst, inl, inr, ⊎_elim, append-nil}
+use Rattle.std.specs.Prelude.{IsTrue}
 use Rattle.esa_lists.specs.Files.{Files}
 use Rattle.esa_outside.specs.Cause.{Rose}
-use Rattle.esa_outside.specs.Told.{AddsFront}
 use Rattle.esa_outside.specs.declared.Role.{Role}
 use Rattle.esa_outside.specs.declared.Role.TheVariants as role
 use Rattle.esa_job.specs.declared.command.Command.{Command}
 use Rattle.esa_cli.specs.declared.status.Status.{Status}
 use Rattle.esa_cli.specs.declared.status.Status.TheVariants as status
-use Rattle.esa_cli.specs.Status.{has_line, status_lines}
-use Rattle.esa_cli.specs.Step.{Step, accepted, refused, missing, Reads, reads_of, without}
+use Rattle.esa_cli.specs.Status.{status_lines}
+use Rattle.esa_cli.specs.Step.{Step, accepted, refused, missing, Reads, reads_of}
 use Rattle.esa_cli.specs.Work.{Work}
-use Rattle.esa_cli.specs.Ends.{Ends}
-use Rattle.esa_cli.specs.Explains.{Explains, IsFault, IsUnread, EndCounted, FaultCounted, PrinterCounted, PrinterStands, HasPrinted, Prints, TellsLines, IsOwed}
-use Rattle.esa_cli.specs.Plain.{steps_of, IsExplained, IsPrinted, IsComplete, CallEnds}
+use Rattle.esa_cli.specs.Explains.{Explains, IsFault, IsUnread, EndCounted, FaultCounted, PrinterCounted, PrinterStands, HasPrinted, Prints, TellsLines}
+use Rattle.esa_cli.specs.Plain.{steps_of, IsPrinted, CallEnds}
 
 -- ---- nothing is added where a status has no line
 

@@ -1,5 +1,5 @@
 -- What analyse takes in, writes and prints.
-use Rattle.std.specs.Prelude.{◌≡◌, ℕ, ◌*◌, ◌/◌, ◌≤◌, Bool, false, List, [], ◌∷◌, ◌++◌, length, codes, unwrap_or}
+use Rattle.std.specs.Prelude.{◌≡◌, ℕ, ◌*◌, ◌/◌, ◌≤◌, false, List, [], ◌∷◌, ◌++◌, length, codes, unwrap_or}
 use Rattle.esa_params.specs.declared.form.Form.{Form}
 use Rattle.esa_params.specs.declared.form.Form.TheVariants.{One, Two}
 use Rattle.esa_params.specs.Form.{inner_length}
@@ -18,9 +18,9 @@ use Rattle.esa_analyser.specs.Rows.{database_bytes}
 use Rattle.esa_analyser.specs.Opened.{database_of}
 use Rattle.esa_cli.specs.declared.stop.Sink.TheVariants.{Output}
 use Rattle.esa_cli.specs.Refusal.{numbered}
-use Rattle.esa_cli.specs.Step.{Step, ◌>>=◌, accepted, refused, missing, Reads}
+use Rattle.esa_cli.specs.Step.{Step, ◌>>=◌, accepted, Reads}
 use Rattle.esa_cli.specs.Taking.{name_of, job_file, keys_file, forward_file}
-use Rattle.esa_cli.specs.Work.{Work, Write}
+use Rattle.esa_cli.specs.Work.{Work}
 
 -- the master of a form and an epoch: in form One the master itself, whatever the epoch
 abbrev pub master_of : Form → ℕ → List ℕ → List ℕ

@@ -1,5 +1,5 @@
 -- What the words of a command line ask for.
-use Rattle.std.specs.Prelude.{ℕ, List, [], ◌∷◌, map, Option, Some, None, bytes_eq, option_map}
+use Rattle.std.specs.Prelude.{ℕ, List, [], ◌∷◌, map, Option, None, bytes_eq, option_map}
 use Rattle.std.specs.Map.{lookup}
 use Rattle.esa_job.specs.declared.command.Command.{Command}
 use Rattle.esa_job.specs.declared.command.Command.TheVariants.{Gen, Encode, Batch, Intake, Shuffle, Run, Relay, Analyse, Histogram, Upgrade, Recover, Plan, Audit}

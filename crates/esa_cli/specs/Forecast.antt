@@ -31,7 +31,7 @@ use Rattle.esa_cli.specs.declared.stop.Stop.{Stop}
 use Rattle.esa_cli.specs.declared.stop.Stop.TheVariants.{Refused, OutOfMemory}
 use Rattle.esa_cli.specs.Asked.{number_of, form_asked}
 use Rattle.esa_cli.specs.Refusal.{numbered}
-use Rattle.esa_cli.specs.Step.{Step, ◌>>=◌, accepted, refused, missing, Reads, file}
+use Rattle.esa_cli.specs.Step.{Step, ◌>>=◌, accepted, refused, Reads, file}
 use Rattle.esa_cli.specs.Taking.{read_step, job_file}
 use Rattle.esa_cli.specs.Work.{Work, Write}
 

@@ -8,7 +8,7 @@ use Rattle.esa_job.specs.Request.{Request}
 use Rattle.esa_analyser.specs.Stored.{Stored}
 use Rattle.esa_analyser.specs.Histogram.{histogram_text}
 use Rattle.esa_cli.specs.Analyse.{database_work}
-use Rattle.esa_cli.specs.Step.{Step, ◌>>=◌, accepted, refused, missing, Reads}
+use Rattle.esa_cli.specs.Step.{Step, ◌>>=◌, accepted, Reads}
 use Rattle.esa_cli.specs.Taking.{name_of, job_file, database_file}
 use Rattle.esa_cli.specs.Work.{Work}
 

@@ -12,14 +12,13 @@ use Rattle.esa_job.specs.Request.{Request, name_at}
 use Rattle.esa_job.specs.Refusal.{job_of}
 use Rattle.esa_job.specs.Keys.{Ring, keys_of}
 use Rattle.esa_threshold.specs.declared.envelopes.Forwarded.{Forwarded}
-use Rattle.esa_threshold.specs.declared.refused.ForwardRefused.{ForwardRefused}
 use Rattle.esa_threshold.specs.Forward.{forward_in}
 use Rattle.esa_cli.specs.declared.source.Source.TheVariants as source
 use Rattle.esa_analyser.specs.Stored.{Stored}
 use Rattle.esa_analyser.specs.Reading.{database_in}
 use Rattle.esa_cli.specs.declared.refusal.Refusal.{Refusal}
 use Rattle.esa_cli.specs.declared.refusal.Refusal.TheVariants as refusal
-use Rattle.esa_cli.specs.Step.{Step, ◌>>=◌, accepted, refused, missing, Reads, file}
+use Rattle.esa_cli.specs.Step.{Step, ◌>>=◌, accepted, refused, Reads, file}
 
 -- the name at a field that the command needs
 abbrev pub name_of : Request → JobField → List ℕ

@@ -1,10 +1,10 @@
 //! The command analyse: a forward file becomes a database.
 
-ghost use Rattle.std.specs.Prelude.{◌≡◌, ℕ, List, Some, None, IfOk};
+ghost use Rattle.std.specs.Prelude.{◌≡◌, Some, IfOk};
 ghost use Rattle.esa_lists.specs.Files.{Files};
 ghost use Rattle.esa_envelope.specs.declared.label.Label.TheVariants.{Inner};
 ghost use Rattle.esa_envelope.specs.Keys.{keys_from};
-ghost use Rattle.esa_job.specs.Seen.{request_of, Needs};
+ghost use Rattle.esa_job.specs.Seen.{Needs};
 ghost use Rattle.esa_cli.specs.Step.{reads_of};
 ghost use Rattle.esa_cli.specs.Judged.{Judged, Counted};
 ghost use Rattle.esa_cli.specs.Analyse.{analyse_steps, database_work, master_of, number_of, counted_by, AreWhole};

@@ -1,6 +1,6 @@
 //! The command batch: submissions become a batch.
 
-ghost use Rattle.std.specs.Prelude.{◌≡◌, ◌⊎◌, ℕ, List, Some, None, Ok, IfOk, IfErr, OnOk, OnErr};
+ghost use Rattle.std.specs.Prelude.{◌≡◌, ◌⊎◌, Some, None, Ok, IfOk, IfErr, OnOk, OnErr};
 ghost use Rattle.std.specs.FinMap as map;
 ghost use Rattle.esa_lists.specs.Files.{Files};
 ghost use Rattle.esa_job.specs.declared.command.Command.TheVariants as command;

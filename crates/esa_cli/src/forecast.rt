@@ -1,10 +1,8 @@
 //! The command plan: what a shuffle will do, without a record.
 
-ghost use Rattle.std.specs.Prelude.{◌≡◌, ℕ, ◌<◌, ◌≤◌, ◌^◌, ◌++◌, List, Some, None, All, IfOk, length, option_map, codes};
+ghost use Rattle.std.specs.Prelude.{◌≡◌, ℕ, ◌<◌, ◌^◌, ◌++◌, List, Some, None, All, IfOk, length, option_map};
 ghost use Rattle.esa_lists.specs.Files.{Files};
 ghost use Rattle.esa_outside.specs.Told.{line_of};
-ghost use Rattle.esa_job.specs.declared.field.Need.TheVariants.{Needed};
-ghost use Rattle.esa_job.specs.Request.{name_at};
 ghost use Rattle.esa_job.specs.Seen.{request_of, Needs};
 ghost use Rattle.esa_params.specs.Sizes.{ArePlanned};
 ghost use Rattle.esa_coins.specs.AnyCoins.{any_plan};
@@ -12,7 +10,7 @@ ghost use Rattle.esa_coins.specs.SeededCoins.{seeds_of};
 ghost use Rattle.esa_model.specs.Turns.{AreWorkers};
 ghost use Rattle.esa_cli.specs.Step.{reads_of};
 ghost use Rattle.esa_cli.specs.Judged.{Judged, Counted};
-ghost use Rattle.esa_cli.specs.Forecast.{sizes_asked, seeds_asked, stop_of_turns, stop_of_coins, turns_file, coins_file, verdict_text, verdict_lines, accesses_text, forecast_work, foretold_work, plan_steps};
+ghost use Rattle.esa_cli.specs.Forecast.{sizes_asked, seeds_asked, stop_of_turns, stop_of_coins, turns_file, coins_file, verdict_text, verdict_lines, accesses_text, forecast_work, plan_steps};
 ghost use Rattle.esa_cli.specs.Foreseen.{draws_of, taken_work};
 ghost use Rattle.esa_cli.specs.Ends.{Does, Ends};
 ghost use Rattle.esa_cli.specs.Explains.{ending};

@@ -1,6 +1,6 @@
 //! Files that are read whole.
 
-ghost use Rattle.std.specs.Prelude.{◌≡◌, Some, IfErr};
+ghost use Rattle.std.specs.Prelude.{◌≡◌, Some};
 ghost use Rattle.esa_lists.specs.Files.{Files};
 ghost use Rattle.esa_cli.specs.Step.{file, reads_of};
 ghost use Rattle.esa_cli.specs.Judged.{Judged, Counted};

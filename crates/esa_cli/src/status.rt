@@ -1,6 +1,6 @@
 //! How a command ended.
 
-ghost use Rattle.std.specs.Prelude.{◌≡◌, [], ◌++◌, length};
+ghost use Rattle.std.specs.Prelude.{◌≡◌};
 ghost use Rattle.esa_cli.specs.Status.{has_line, status_code, status_text};
 
 use crate::line::Line;

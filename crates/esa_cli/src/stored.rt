@@ -4,7 +4,7 @@ ghost use Rattle.std.specs.Prelude.{◌≡◌, ℕ, List, Some, None, IfOk};
 ghost use Rattle.esa_lists.specs.Files.{Files};
 ghost use Rattle.esa_job.specs.declared.command.Command.TheVariants as command;
 ghost use Rattle.esa_job.specs.declared.field.Need.TheVariants.{Needed};
-ghost use Rattle.esa_job.specs.Seen.{request_of, Needs};
+ghost use Rattle.esa_job.specs.Seen.{request_of};
 ghost use Rattle.esa_job.specs.Table.{need_of};
 ghost use Rattle.esa_analyser.specs.Rows.{IsDatabase};
 ghost use Rattle.esa_analyser.specs.Histogram.{histogram_text};

@@ -1,8 +1,6 @@
 //! The line that a status has of its own.
 
-ghost use Rattle.std.specs.Prelude.{◌≡◌, ◌++◌, ℕ, List, Some, None};
-ghost use Rattle.esa_outside.specs.Cause.{Rose};
-ghost use Rattle.esa_outside.specs.Told.{AddsFront};
+ghost use Rattle.std.specs.Prelude.{◌≡◌, ℕ, List, Some, None};
 ghost use Rattle.esa_cli.specs.Status.{status_lines};
 ghost use Rattle.esa_cli.specs.Explains.{TellsLines, PrinterStands};
 

@@ -1,13 +1,13 @@
 //! The drain and the compression of an attempt, by numbers alone.
 
-ghost use Rattle.std.specs.Prelude.{◌≡◌, ℕ, suc, ◌+◌, ◌-◌, ◌*◌, ◌<◌, ◌≤◌, ◌++◌, ◌∷◌, [], min, map, length, slice_index, unwrap_or};
+ghost use Rattle.std.specs.Prelude.{◌≡◌, ℕ, suc, ◌+◌, ◌-◌, ◌*◌, ◌<◌, ◌≤◌, ◌∷◌, [], min, map, length, slice_index, unwrap_or};
 ghost use Rattle.std.specs.List.{range_with_len};
 ghost use Rattle.esa_params.specs.Sizes.{ArePlanned, below};
 ghost use Rattle.esa_spec.specs.Draws.{Draw};
 ghost use Rattle.esa_spec.specs.Traces.{written_tail, import_reads};
 ghost use Rattle.esa_spec.specs.Verdicts.{Import, Put, imported, steps_of, steps};
 ghost use Rattle.esa_spec.specs.declared.event.Verdict.TheVariants.{Good};
-ghost use Rattle.esa_model.specs.Recorded.{Recorded, with_accesses};
+ghost use Rattle.esa_model.specs.Recorded.{with_accesses};
 ghost use Rattle.esa_model.specs.Passed.{AreFew};
 ghost use Rattle.esa_model.specs.Walked.{first_over, HaveArrived, IsReached, IsWithin, AreMade, Grows};
 

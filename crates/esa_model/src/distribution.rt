@@ -1,16 +1,16 @@
 //! The distribution of an attempt, by numbers alone: its turns, up to the one that finishes it.
 
-ghost use Rattle.std.specs.Prelude.{◌≡◌, ◌≢◌, ℕ, ◌+◌, ◌-◌, ◌*◌, ◌<◌, ◌≤◌, ◌^◌, ◌++◌, ◌∷◌, [], List, Some, None, All, IfOk, IfSome, IfNone, length, nat_lt, slice_index, option_to_list, if◌then◌else◌};
-ghost use Rattle.esa_params.specs.Sizes.{Sizes, ArePlanned};
+ghost use Rattle.std.specs.Prelude.{◌≡◌, ℕ, ◌+◌, ◌-◌, ◌*◌, ◌<◌, ◌≤◌, ◌^◌, ◌++◌, ◌∷◌, [], List, Some, None, All, IfOk, IfSome, IfNone, length, nat_lt, slice_index, option_to_list, if◌then◌else◌};
+ghost use Rattle.esa_params.specs.Sizes.{ArePlanned};
 ghost use Rattle.esa_spec.specs.Completion.{completed, full};
 ghost use Rattle.esa_spec.specs.Draws.{drawn};
 ghost use Rattle.esa_params.specs.Slots.{IsPlanned};
 ghost use Rattle.esa_spec.specs.Traces.{asked, chunk_slot, spread};
 ghost use Rattle.esa_spec.specs.Turns.{exchanged, is_write};
 ghost use Rattle.esa_spec.specs.declared.event.Verdict.TheVariants.{StashOverflow};
-ghost use Rattle.esa_model.specs.Recorded.{Recorded, with_accesses};
-ghost use Rattle.esa_model.specs.Seats.{none_seated, event_of_next, with_turn, IsPlannedEvent};
-ghost use Rattle.esa_model.specs.Passed.{AreFew, AreLines, IsExchanged, all_staying, none_passed};
+ghost use Rattle.esa_model.specs.Recorded.{with_accesses};
+ghost use Rattle.esa_model.specs.Seats.{event_of_next, IsPlannedEvent};
+ghost use Rattle.esa_model.specs.Passed.{AreFew, AreLines, IsExchanged, all_staying};
 
 use crate::lines::Lines;
 use crate::rounds::Rounds;

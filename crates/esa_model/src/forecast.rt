@@ -1,7 +1,6 @@
 //! What a forecast says, in room that was reserved.
 
-ghost use Rattle.std.specs.Prelude.{◌≡◌, ℕ, ◌+◌, ◌*◌, ◌<◌, ◌≤◌, ◌++◌, ◌∷◌, [], All, IfOk, length, true};
-ghost use Rattle.esa_params.specs.Sizes.{ArePlanned};
+ghost use Rattle.std.specs.Prelude.{◌≡◌, ◌+◌, ◌*◌, ◌<◌, ◌≤◌, ◌++◌, ◌∷◌, [], All, IfOk, length, true};
 ghost use Rattle.esa_spec.specs.Completion.{full};
 ghost use Rattle.esa_spec.specs.Draws.{drawn};
 ghost use Rattle.esa_spec.specs.Traces.{load, attempt_trace, scan};

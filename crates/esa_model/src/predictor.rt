@@ -3,8 +3,7 @@
 ghost use Rattle.std.specs.Prelude.{◌≡◌, IfOk};
 ghost use Rattle.esa_spec.specs.Draws.{drawn};
 ghost use Rattle.esa_spec.specs.Traces.{trace};
-ghost use Rattle.esa_model.specs.Distributed.{IsOf};
-ghost use Rattle.esa_model.specs.Forecast.{made, verdicts, nothing_foretold};
+ghost use Rattle.esa_model.specs.Forecast.{made, verdicts};
 ghost use Rattle.esa_model.specs.Ready.{IsReady};
 ghost use Rattle.esa_model.specs.Turns.{AreWorkers};
 

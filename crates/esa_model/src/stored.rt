@@ -1,6 +1,6 @@
 //! Coins whose targets are stored.
 
-ghost use Rattle.std.specs.Prelude.{◌≡◌, ◌+◌, ◌*◌, ◌<◌, ◌↔◌, true, All, IsSome, IfSome, IsTrue, length};
+ghost use Rattle.std.specs.Prelude.{◌≡◌, ◌+◌, ◌*◌, ◌<◌, ◌↔◌, All, IsSome, IfSome, IsTrue};
 ghost use Rattle.esa_params.specs.Sizes.{below};
 ghost use Rattle.esa_model.specs.Stored.{IsStored, AreStored};
 

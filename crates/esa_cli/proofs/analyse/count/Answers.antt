@@ -1,4 +1,4 @@
-use Rattle.std.proofs.Common.{◌≡◌, ap, ◌∙◌}
+use Rattle.std.proofs.Common.{ap, ◌∙◌}
 use Rattle.esa_cli.specs.Analyse.{envelopes_of}
 use Rattle.esa_analyser.specs.Opened.{database_of}
 use Rattle.esa_cli.proofs.Counts.{counts}

@@ -1,9 +1,8 @@
-use Rattle.std.proofs.Common.{◌≡◌, ◌∙◌, ℕ, ◌<◌, ◌^◌, length, sym, ap, subst}
+use Rattle.std.proofs.Common.{◌≡◌, ◌∙◌, ◌<◌, ◌^◌, length, sym, ap, subst}
 use Rattle.std.specs.Prelude.{All, option_map}
 use Rattle.esa_params.specs.Sizes.{ArePlanned}
 use Rattle.esa_spec.specs.Traces.{trace}
 use Rattle.esa_job.specs.declared.field.JobField.TheVariants as field
-use Rattle.esa_job.specs.Request.{name_at}
 use Rattle.esa_job.specs.Seen.{request_of}
 use Rattle.esa_model.specs.Forecast.{made, verdicts}
 use Rattle.esa_trace.proofs.AttemptLaws.{attempts_fit}

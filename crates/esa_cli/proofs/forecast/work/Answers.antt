@@ -1,9 +1,9 @@
-use Rattle.std.proofs.Common.{◌≡◌, ◌++◌, ◌∙◌, ◌∷◌, [], Some, ap, subst, length, ⊎_elim}
+use Rattle.std.proofs.Common.{◌++◌, ◌∙◌, Some, ap, length, ⊎_elim}
 use Rattle.std.specs.FinMap as map
 use Rattle.esa_outside.specs.Told.{line_of}
 use Rattle.esa_spec.specs.Files.{trace_bytes}
 use Rattle.esa_cli.specs.declared.stop.Sink.TheVariants.{Trace}
-use Rattle.esa_cli.specs.Forecast.{verdict_lines, accesses_text, forecast_work}
+use Rattle.esa_cli.specs.Forecast.{verdict_lines, accesses_text}
 use Rattle.esa_cli.proofs.Forecasts.{writes_then_prints, breaks_writing}
 use Rattle.esa_cli.proofs.forecast.work.Goals as goal
 

@@ -1,4 +1,4 @@
-use Rattle.std.proofs.Common.{◌≡◌, ◌∙◌, ap}
+use Rattle.std.proofs.Common.{ap}
 use Rattle.std.proofs.lemmas.Result.{err_from_is_err_and}
 use Rattle.esa_job.specs.declared.command.Command.TheVariants.{Histogram}
 use Rattle.esa_cli.specs.Step.{◌>>=◌, accepted}
