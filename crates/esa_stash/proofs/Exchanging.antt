@@ -13,7 +13,7 @@ use Rattle.esa_stash.specs.Queue.{queue, leaving, waiting, departed}
 use Rattle.esa_report.specs.declared.item.Item.{Item}
 use Rattle.esa_stash.specs.Arena.{Arena, empty_arena, queues_of, items_in, chain_at, IsShared}
 use Rattle.esa_stash.specs.Stash.{Held, Handed, empty_stash, targets_of, queue_at, coming, line, chunk, rest, padded, padded_chunk, chunks, count, counts, exchanged, total}
-use Rattle.esa_stash.specs.Since.{batches, tail_length, IsSince, last_chunk, last_chunks, last_count, last_counts, backlog, total_backlog}
+use Rattle.esa_stash.specs.Since.{batches, tail_length, HasTail, IsSince, last_chunk, last_chunks, last_count, last_counts, backlog, total_backlog}
 use Rattle.esa_stash.specs.Dealing.{queue_of, line_after, left_of, left_after, arrivals, AreDealt}
 use Rattle.esa_stash.proofs.Partitions.{occurrences-cons}
 use Rattle.esa_stash.proofs.Rising.{occurrences-range, map-replicate}
@@ -83,8 +83,8 @@ arrivals-together (t ∷ ts) n =
     omega arith
 
 -- a queue is as long as its target's tail
-pub length-tail : (held : Held) (all : List Handed) (i : ℕ) → IsSince all held → i < length held.queues → length (queue_at held i) ≡ tail_length held.c all i
-length-tail held all i since inside = ap length (since i inside) ∙ length-queue held.c (batches all i) (length all)
+pub length-tail : (held : Held) (all : List Handed) (i : ℕ) → HasTail all held i → length (queue_at held i) ≡ tail_length held.c all i
+length-tail held all i has = ap length has ∙ length-queue held.c (batches all i) (length all)
 
 -- ---- by all that was handed over before
 module _ (held : Held) (all : List Handed) (last : Handed) (since : IsSince all held) where

@@ -16,9 +16,13 @@ tail c all i = queue c (batches all i) (length all)
 abbrev pub tail_length : ℕ → List Handed → ℕ → ℕ
 tail_length c all i = waiting c (batches all i) (length all)
 
--- each queue is its target's tail
+-- the queue of a target is its tail
+abbrev pub HasTail : List Handed → Held → ℕ → Type 0
+HasTail all held i = queue_at held i ≡ tail held.c all i
+
+-- the same of each target
 abbrev pub IsSince : List Handed → Held → Type 0
-IsSince all held = (i : ℕ) → i < length held.queues → queue_at held i ≡ tail held.c all i
+IsSince all held = (i : ℕ) → i < length held.queues → HasTail all held i
 
 -- the chunk of a target in the last exchange
 abbrev pub last_chunk : ℕ → List Handed → Handed → ℕ → List Item

@@ -1,8 +1,8 @@
 //! The stash: a queue of items for each target, in one arena.
 
-ghost use Rattle.std.specs.Prelude.{◌≡◌, ◌*◌, ◌≤◌, ◌<◌, ◌↔◌, List, [], ◌∷◌, ◌++◌, All, length, map, take, slice_set, IfOk, IfErr, IsOk, OnOk, OnErr};
+ghost use Rattle.std.specs.Prelude.{ℕ, ◌≡◌, ◌≢◌, ◌*◌, ◌≤◌, ◌<◌, ◌↔◌, List, [], ◌∷◌, ◌++◌, All, length, map, take, slice_set, IfOk, IfErr, IsOk, OnOk, OnErr};
 ghost use Rattle.esa_stash.specs.Stash.{Handed, contents, empty_stash, without, queue_at, padded, chunks as chunks_of, counts as counts_of, exchanged, total};
-ghost use Rattle.esa_stash.specs.Since.{IsSince, tail, tail_length, last_chunks, last_counts, total_backlog};
+ghost use Rattle.esa_stash.specs.Since.{IsSince, HasTail, tail, tail_length, last_chunks, last_counts, total_backlog};
 
 use crate::cells::Cells;
 use crate::{dealing, totals};
@@ -126,11 +126,13 @@ impl Stash {
         ensures emptied { OnOk result (contents self.new ≡ without (contents self.old) target) }
         ensures left { IfErr result (λ left. left.held ≡ length (queue_at (contents self.old) target)) }
 
-        // The same by all that was handed over since the stash was empty, each time with Ok and no spill between.
-        ensures fits_since { (all : List Handed) → IsSince all (contents self.old) → IsOk result ↔ (tail_length self.old.c all target ≤ length out.old) }
-        ensures moved_since { OnOk result ((all : List Handed) → IsSince all (contents self.old) → out.new ≡ padded (length out.old) (tail self.old.c all target)) }
-        ensures count_since { IfOk result (λ count. (all : List Handed) → IsSince all (contents self.old) → count ≡ tail_length self.old.c all target) }
-        ensures left_since { IfErr result (λ left. (all : List Handed) → IsSince all (contents self.old) → left.held ≡ tail_length self.old.c all target) }
+        // The same by all that was handed over since the stash was empty, each time with Ok and no spill between. It
+        // holds for one target after another, since the other queues stay.
+        ensures fits_since { (all : List Handed) → HasTail all (contents self.old) target → IsOk result ↔ (tail_length self.old.c all target ≤ length out.old) }
+        ensures moved_since { OnOk result ((all : List Handed) → HasTail all (contents self.old) target → out.new ≡ padded (length out.old) (tail self.old.c all target)) }
+        ensures count_since { IfOk result (λ count. (all : List Handed) → HasTail all (contents self.old) target → count ≡ tail_length self.old.c all target) }
+        ensures left_since { IfErr result (λ left. (all : List Handed) → HasTail all (contents self.old) target → left.held ≡ tail_length self.old.c all target) }
+        ensures others_since { OnOk result ((all : List Handed) → (i : ℕ) → i ≢ target → HasTail all (contents self.old) i → HasTail all (contents self.new) i) }
 
         ensures unchanged { OnErr result (self.new ≡ self.old) }
         ensures out_unchanged { OnErr result (out.new ≡ out.old) }
