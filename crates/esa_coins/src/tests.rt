@@ -243,7 +243,7 @@ fn answer(alloc: Global, plan: Plan, bytes: &[u8]) -> Result<String, AllocError>
 }
 
 #[test]
-fn coins_files(rt: HostRuntime) -> Result<(), Fail> {
+fn each_refusal_and_two_at_once(rt: HostRuntime) -> Result<(), Fail> {
     for line in FILES.lines() {
         let (attempts, rest) = line.split_once('|').ok_or("a number of attempts")?;
         let (wanted, file) = rest.split_once('|').ok_or("an answer")?;
