@@ -1,4 +1,4 @@
-//! Forecasts, and a bare loop that appends as many accesses and adds up as many records.
+//! Forecasts, and a bare loop that appends as many accesses and does one addition for each record.
 
 use anyhow::{Result, bail};
 use esa_model::{Predictor, StoredCoins, Turns};
@@ -17,13 +17,16 @@ pub struct Load {
     pub bare: u64,
 }
 
-/// Forecasts, or appends and adds up, as often as the load says, and prints the number of accesses.
+/// Forecasts as often as the load says, or does the bare loop as often, and prints the number of accesses. Behind that of
+/// the bare loop stands a sum of all that it wrote, so that none of it can be left out.
 pub fn measure(rt: &impl Print, alloc: Global, load: &Load) -> Result<()> {
-    let count = match load.bare {
-        0 => forecast(alloc, load)?,
-        _ => append(alloc, load)?,
-    };
-    println!(rt; "{count}")?;
+    if load.bare == 0 {
+        let count = forecast(alloc, load)?;
+        println!(rt; "{count}")?;
+    } else {
+        let (count, sum) = append(alloc, load)?;
+        println!(rt; "{count} {sum}")?;
+    }
     Ok(())
 }
 
@@ -91,34 +94,61 @@ fn targets_of(alloc: Global, plan: &Plan, shape: u64) -> Result<Vec<u32>, AllocE
     Ok(targets)
 }
 
-/// Appends as many accesses as there is room for, and adds up each record's target, as often as the load says. Tells how
-/// many were appended.
-fn append(alloc: Global, load: &Load) -> Result<usize> {
+/// The bare loop: appends as many accesses as a forecast has to a reserved list, and does one addition for each record of
+/// each attempt, to the number of places of its target, as often as the load says. Tells how many accesses there are, and
+/// a sum of all that was written.
+fn append(alloc: Global, load: &Load) -> Result<(usize, u64)> {
     let plan = plan_of(load)?;
     let targets = targets_of(alloc, &plan, load.shape)?;
-    let room = plan.greatest_trace();
-    let mut accesses = Vec::with_capacity(alloc, room as usize)?;
-    let mut sum = 0u32;
+    let once = Load { runs: 1, ..*load };
+    let Ok(count) = u32::try_from(forecast(alloc, &once)?) else {
+        bail!("too many accesses");
+    };
+    let mut accesses = Vec::with_capacity(alloc, count as usize)?;
+    let mut arrived = [0u32; 256];
     for _run in 0..load.runs {
-        accesses.clear();
-        for index in 0..room {
-            accesses.push(access_at(index, sum))?;
-        }
-        sum = targets
-            .iter()
-            .fold(sum, |sum, target| sum.wrapping_add(*target));
+        append_all(&mut accesses, count)?;
+        count_all(&mut arrived, &targets);
     }
-    Ok(accesses.len())
+    let numbers = arrived
+        .iter()
+        .fold(0u64, |sum, number| sum.wrapping_add(u64::from(*number)));
+    let sum = accesses.iter().fold(numbers, add_access);
+    Ok((accesses.len(), sum))
+}
+
+/// Appends so many accesses to an emptied list.
+fn append_all(accesses: &mut Vec<Access>, count: u32) -> Result<(), AllocError> {
+    accesses.clear();
+    for index in 0..count {
+        accesses.push(access_at(index))?;
+    }
+    Ok(())
+}
+
+/// Adds each record to the number of its target. There are at most 256 targets.
+fn count_all(arrived: &mut [u32; 256], targets: &[u32]) {
+    for target in targets {
+        let number = &mut arrived[(*target % 256) as usize];
+        *number = number.wrapping_add(1);
+    }
+}
+
+/// A sum with all fields of an access.
+fn add_access(sum: u64, access: &Access) -> u64 {
+    let fields = u64::from(access.index) ^ u64::from(access.length) ^ u64::from(access.attempt);
+    let kind = u64::from(access.op == Op::Write) ^ u64::from(access.region == Region::Mid);
+    sum.wrapping_add(fields ^ access.nonce ^ kind)
 }
 
 /// Some access.
-fn access_at(index: u32, attempt: u32) -> Access {
+fn access_at(index: u32) -> Access {
     Access {
         op: Op::Write,
         region: Region::Mid,
         index,
         length: 177,
-        nonce: u64::from(index),
-        attempt,
+        nonce: u64::from(index) + 512,
+        attempt: 1,
     }
 }

@@ -2,7 +2,6 @@
 
 use crate::{Forecast, Predictor, StoredCoins, Turns, TurnsRefused, Verdict};
 use esa_params::{Form, Params, Plan, check};
-use esa_spec::Coins;
 use std::alloc::{AllocError, Global};
 use std::test::Fail;
 
@@ -133,8 +132,21 @@ fn worked_cases(rt: HostRuntime) -> Result<(), Fail> {
     Ok(())
 }
 
-// Four records in two buckets with no stash, for two workers and two attempts.
-fn twice(alloc: Global, targets: &str) -> Result<StoredCoins, Fail> {
+// A forecast in one line: how the attempts end, and the nonces of the accesses.
+fn told(alloc: Global, forecast: &Forecast) -> Result<String, AllocError> {
+    let mut text = ends_of(alloc, forecast.verdicts())?;
+    for access in forecast.accesses() {
+        let word = format!(in alloc; " {}", access.nonce)?;
+        text.push_str(word.as_str())?;
+    }
+    Ok(text)
+}
+
+// Four records in two buckets with no stash. There are two attempts, each with its own list of turns: bucket 1 is read first
+// in the first one, and bucket 0 in the second one. What the second one writes has a nonce of 4,294,967,296 and more. One
+// predictor forecasts this, then what other coins draw, and then the first again.
+#[test]
+fn forecasts_one_after_another(rt: HostRuntime) -> Result<(), Fail> {
     let params = Params {
         b: 2,
         c: 1,
@@ -146,32 +158,13 @@ fn twice(alloc: Global, targets: &str) -> Result<StoredCoins, Fail> {
         attempts: 2,
     };
     let plan = plan_of(4, &params).ok_or("a plan")?;
-    let coins = StoredCoins::of(plan, digits_of(alloc, targets)?).ok_or("coins")?;
-    Ok(coins)
-}
-
-// A forecast in one line: how the attempts end, and the nonces of the accesses.
-fn told(alloc: Global, forecast: &Forecast) -> Result<String, AllocError> {
-    let mut text = ends_of(alloc, forecast.verdicts())?;
-    for access in forecast.accesses() {
-        let word = format!(in alloc; " {}", access.nonce)?;
-        text.push_str(word.as_str())?;
-    }
-    Ok(text)
-}
-
-// Two attempts, each by its own list of turns: bucket 1 is read first in the first one, and bucket 0 in the second one. A
-// chunk of the second one has a nonce of 4,294,967,296 and more. One predictor forecasts this, then what other coins
-// draw, and then the first again.
-#[test]
-fn forecasts_one_after_another(rt: HostRuntime) -> Result<(), Fail> {
-    let failing = twice(rt.alloc(), "00100101")?;
-    let good = twice(rt.alloc(), "01010010")?;
+    let failing = StoredCoins::of(plan, digits_of(rt.alloc(), "00100101")?).ok_or("coins")?;
+    let good = StoredCoins::of(plan, digits_of(rt.alloc(), "01010010")?).ok_or("coins")?;
     let file = file_of(rt.alloc(), "1/0/next/1/1/1/0/")?;
-    let Ok(turns) = Turns::read(rt.alloc(), &file, 2, 2) else {
+    let Ok(turns) = Turns::read(rt.alloc(), &file, plan.workers(), plan.attempts()) else {
         return Err(Fail::from("a turns file"));
     };
-    let mut predictor = Predictor::make(rt.alloc(), failing.plan())?;
+    let mut predictor = Predictor::make(rt.alloc(), plan)?;
     let wanted = "StashOverflow(0),Good 0 1 1 0 0 1 4294967298 4294967299 4294967300 4294967301 \
         4294967302 4294967303 4294967298 4294967300 4294967302 4294967299 4294967301 4294967303 \
         4294967304 4294967305 4294967304 4294967305 4294967304 4294967305";
