@@ -15,7 +15,7 @@ import os
 import subprocess
 import tempfile
 
-from measure import instructions, peak_memory, program
+from measure import instructions, peak_memory, program, settle
 
 # The shuffles: how many records each has, and with how many attempts it is forecast.
 SHAPES = [("256 buckets", 0, 16_384, [1, 2, 4, 8, 16]), ("32 buckets", 1, 100_000, [1])]
@@ -34,10 +34,7 @@ def main():
         for name, shape, records, attempts in SHAPES:
             rows = {number: measure(bench, folder, name, shape, records, number) for number in attempts}
             targets += judged(name, rows)
-    for target, found, limit in targets:
-        print(f"{target}: {found:.2f}, at most {limit}: {'holds' if found <= limit else 'FAILS'}")
-    if any(found > limit for _, found, limit in targets):
-        raise SystemExit(1)
+    settle(targets)
 
 
 def measure(bench, folder, name, shape, records, attempts):
