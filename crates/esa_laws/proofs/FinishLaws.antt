@@ -44,10 +44,10 @@ turns_of-again v w (suc n) v_in = omega (arith, turns_of-append v (below w) (aga
 abbrev pub AllBelow : ℕ → List ℕ → Type 0
 AllBelow w xs = All (λ v. v < w) xs
 
-All-nil : (w : ℕ) → AllBelow w []
+pub All-nil : (w : ℕ) → AllBelow w []
 All-nil w = λ k d k_in. absurd (omega arith)
 
-All-one : (w v : ℕ) → v < w → AllBelow w (v ∷ [])
+pub All-one : (w v : ℕ) → v < w → AllBelow w (v ∷ [])
 All-one w v v_in = λ k d k_in. first k d k_in
   where
     first : (k d : ℕ) → k < length (v ∷ []) → slice_index_or (v ∷ []) k d < w
@@ -64,7 +64,7 @@ All-again w zero = All-nil w
 All-again w (suc n) = All-append (λ v. v < w) (below w) (again n (below w)) (All-below w w (omega arith)) (All-again w n)
 
 -- a number that isn't a worker's has no turn
-All-tail : (w x : ℕ) (xs : List ℕ) → AllBelow w (x ∷ xs) → AllBelow w xs
+pub All-tail : (w x : ℕ) (xs : List ℕ) → AllBelow w (x ∷ xs) → AllBelow w xs
 All-tail w x xs all = λ k d k_in. all (suc k) d (omega arith)
 
 no_turns : (w v : ℕ) (h : List ℕ) → AllBelow w h → w ≤ v → turns_of v h ≡ 0
