@@ -27,7 +27,7 @@ use Rattle.esa_spec.specs.Turns.{turns_of, next, next_phase, claims, held, order
 use Rattle.esa_spec.specs.Verdicts.{failing, is_finished}
 
 -- the turns of a worker in a completed list
-turns_of-append : (v : ℕ) (xs ys : List ℕ) → turns_of v (xs ++ ys) ≡ turns_of v xs + turns_of v ys
+pub turns_of-append : (v : ℕ) (xs ys : List ℕ) → turns_of v (xs ++ ys) ≡ turns_of v xs + turns_of v ys
 turns_of-append v xs ys = sum_by-append (λ u. bit (u == v)) xs ys
 
 either_way : (u v : ℕ) → (u == v) ≡ (v == u)

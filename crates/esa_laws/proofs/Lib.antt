@@ -3,6 +3,7 @@ pub mod Events
 pub mod ExchangeLaws
 pub mod FileLaws
 pub mod FinishLaws
+pub mod GrownLaws
 pub mod HistoryLaws
 pub mod LengthLaws
 pub mod LineLaws

@@ -114,7 +114,7 @@ position-here : (test : ℕ → Bool) (x : ℕ) (xs : List ℕ) (c : Bool) → t
 position-here test x xs true e later = let here = ap (λ y. cond (not y) (1 + position_or_len test xs) 0) e in omega (arith, here)
 position-here test x xs false e later = let here = ap (λ y. cond (not y) (1 + position_or_len test xs) 0) e in omega (arith, here, later refl)
 
-position-in : (test : ℕ → Bool) (xs : List ℕ) → 1 ≤ count_by test xs → position_or_len test xs < length xs
+pub position-in : (test : ℕ → Bool) (xs : List ℕ) → 1 ≤ count_by test xs → position_or_len test xs < length xs
 position-in test [] some = absurd (omega arith)
 position-in test (x ∷ xs) some = position-here test x xs (test x) refl
     (λ e. position-in test xs (omega (arith, sum_by-cons (λ y. bit (test y)) x xs, ap bit e)))
