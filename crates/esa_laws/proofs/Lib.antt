@@ -9,6 +9,7 @@ pub mod LengthLaws
 pub mod LineLaws
 pub mod NonceLaws
 pub mod OrderLaws
+pub mod PairLaws
 pub mod PermLaws
 pub mod PlaceLaws
 pub mod QueueLaws
