@@ -67,7 +67,7 @@ All-again w (suc n) = All-append (λ v. v < w) (below w) (again n (below w)) (Al
 pub All-tail : (w x : ℕ) (xs : List ℕ) → AllBelow w (x ∷ xs) → AllBelow w xs
 All-tail w x xs all = λ k d k_in. all (suc k) d (omega arith)
 
-no_turns : (w v : ℕ) (h : List ℕ) → AllBelow w h → w ≤ v → turns_of v h ≡ 0
+pub no_turns : (w v : ℕ) (h : List ℕ) → AllBelow w h → w ≤ v → turns_of v h ≡ 0
 no_turns w v [] all past = refl
 no_turns w v (x ∷ xs) all past =
     let first : x < w = all 0 0 (omega arith) in

@@ -1,4 +1,5 @@
 pub mod AfterLaws
+pub mod DoneLaws
 pub mod Events
 pub mod ExchangeLaws
 pub mod FileLaws
