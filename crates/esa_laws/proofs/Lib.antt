@@ -8,6 +8,7 @@ pub mod GrownLaws
 pub mod HistoryLaws
 pub mod LengthLaws
 pub mod LineLaws
+pub mod MapLaws
 pub mod NonceLaws
 pub mod OrderLaws
 pub mod PairLaws
