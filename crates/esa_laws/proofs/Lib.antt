@@ -2,10 +2,12 @@ pub mod AfterLaws
 pub mod DoneLaws
 pub mod Events
 pub mod ExchangeLaws
+pub mod FailLaws
 pub mod FileLaws
 pub mod FinishLaws
 pub mod GrownLaws
 pub mod HistoryLaws
+pub mod LaterLaws
 pub mod LengthLaws
 pub mod LineLaws
 pub mod MapLaws
