@@ -20,6 +20,7 @@ pub mod QueueLaws
 pub mod Ranges
 pub mod RoundLaws
 pub mod SizeLaws
+pub mod SlotLaws
 pub mod SpreadLaws
 pub mod Sums
 pub mod Tests

@@ -23,7 +23,7 @@ pub record Writing (b g f j i : ℕ) : Type 0 where
   pub late : 3 ≤ f
   pub target : f - 3 ≡ i
 
-both-true : (c e : Bool) → (c && e) ≡ true → (c ≡ true) × (e ≡ true)
+pub both-true : (c e : Bool) → (c && e) ≡ true → (c ≡ true) × (e ≡ true)
 both-true true e h = (refl, h)
 both-true false e h = absurd (cc)
 
