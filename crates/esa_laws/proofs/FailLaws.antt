@@ -1,11 +1,10 @@
 -- The turn with which an attempt fails.
-use Rattle.std.proofs.Common.{◌≡◌, ℕ, ◌+◌, ◌≤◌, ◌<◌, List, [], ◌∷◌, ◌++◌, length, take, drop, refl, sym, ◌∙◌, ap, subst, arith, append-nil, length-append}
-use Rattle.std.specs.List.{filter_map}
-use Rattle.std.specs.Prelude.{Option, Some, None, slice_index, option_to_list, Bool, true, false, cond}
-use Rattle.std.proofs.lemmas.List.{take-append-le, take-append-drop, take_at, take_all, length_push, get_or_push, get_or_append_left}
+use Rattle.std.proofs.Common.{◌≡◌, ℕ, ◌+◌, ◌<◌, List, [], ◌∷◌, ◌++◌, length, take, refl, sym, ◌∙◌, ap, arith}
+use Rattle.std.specs.Prelude.{Option, Some, None, slice_index, option_to_list, Bool, true, false}
+use Rattle.std.proofs.lemmas.List.{take-append-le, take_at, take_all, length_push, get_or_push, get_or_append_left}
 use Rattle.esa_params.specs.Sizes.{Sizes}
-use Rattle.esa_laws.proofs.GrownLaws.{events-begin, order-begins}
-use Rattle.esa_laws.proofs.SpreadLaws.{through-all, through-append, exchanged-is, exchanges, failing-made, failing-stays}
+use Rattle.esa_laws.proofs.GrownLaws.{order-begins}
+use Rattle.esa_laws.proofs.SpreadLaws.{through-all, through-append, exchanged-is, failing-made, failing-stays}
 use Rattle.esa_laws.proofs.RoundLaws.{by_pushes}
 use Rattle.esa_laws.proofs.TurnLaws.{events-push, order-push, event_at-append}
 use Rattle.esa_laws.proofs.VerdictLaws.{failing-same, failing-by}
@@ -14,7 +13,6 @@ use Rattle.esa_spec.specs.Lines.{overflows}
 use Rattle.esa_spec.specs.Traces.{through}
 use Rattle.esa_spec.specs.Turns.{events, event_at, exchanged, next, order}
 use Rattle.esa_spec.specs.Verdicts.{failing}
-use Rattle.esa_spec.specs.declared.event.Event.{Event}
 use Rattle.esa_spec.specs.declared.event.Event.TheVariants.{Exchange}
 
 -- the failing exchange stays the failing one when the history goes on

@@ -1,6 +1,6 @@
 -- Neither the verdict nor the accesses depend on the orders, nor on targets of a bucket or an attempt that isn't there.
-use Rattle.std.proofs.Common.{◌≡◌, ℕ, zero, suc, ◌+◌, ◌<◌, Bool, true, false, cond, ◌||◌, ◌==◌, ◌*◌, List, [], ◌∷◌, ◌++◌, length, take, map, refl, sym, ◌∙◌, ap, arith, subst}
-use Rattle.std.specs.List.{All, find, filter_map, count_by}
+use Rattle.std.proofs.Common.{◌≡◌, ℕ, suc, ◌+◌, ◌<◌, true, false, cond, ◌||◌, ◌==◌, ◌*◌, List, [], ◌∷◌, ◌++◌, length, take, map, refl, sym, ◌∙◌, ap, arith, subst}
+use Rattle.std.specs.List.{filter_map, count_by}
 use Rattle.std.specs.Prelude.{Option, Some, None, is_some, nat_lt, option_to_list, unwrap_or}
 use Rattle.std.proofs.lemmas.List.Elements.{All-append}
 use Rattle.esa_params.specs.Sizes.{Sizes, first, below, places_of}
@@ -14,12 +14,12 @@ use Rattle.esa_laws.proofs.RoundLaws.{by_pushes}
 use Rattle.esa_laws.proofs.TurnLaws.{order-push}
 use Rattle.esa_spec.specs.Completion.{completed, is_finished_at, full}
 use Rattle.esa_spec.specs.Draws.{Draw, chosen}
-use Rattle.esa_spec.specs.Lines.{chosen_places, batches, backlog, stashed, overflows}
+use Rattle.esa_spec.specs.Lines.{chosen_places, batches, backlog, overflows}
 use Rattle.esa_spec.specs.Queue.{joined, waiting}
 use Rattle.esa_spec.specs.Traces.{asked, made, spread, step_accesses, walk, compression, written_tail, drain, rest, attempt_trace, attempts, is_failed, good_attempt, load, scans, trace}
 use Rattle.esa_spec.specs.Turns.{events, exchanged, next, order, writes}
-use Rattle.esa_spec.specs.Verdicts.{failing, is_finished, left, is_left, Step, Import, Put, imported, steps, is_below, targets, reached, step_verdict, is_good, first_bad, drained, settled, verdict}
-use Rattle.esa_spec.specs.declared.event.Verdict.TheVariants.{Good, StashOverflow, QueueOverflow, QueueStarved}
+use Rattle.esa_spec.specs.Verdicts.{failing, is_finished, left, is_left, Step, Import, Put, imported, steps, is_below, reached, step_verdict, is_good, first_bad, drained, settled, verdict}
+use Rattle.esa_spec.specs.declared.event.Verdict.TheVariants.{Good, QueueOverflow, QueueStarved}
 
 -- the buckets that are exchanged are below b
 one-below : (b : ℕ) (o : Option ℕ) → ((j : ℕ) → o ≡ Some j → j < b) → AllBelow b (option_to_list o)

@@ -1,8 +1,8 @@
 -- Each pair of bucket and target is written once, and after the exchange of the bucket.
-use Rattle.std.proofs.Common.{◌≡◌, ◌≢◌, ℕ, suc, ◌+◌, ◌-◌, ◌*◌, ◌≤◌, ◌<◌, ⊎_elim, Bool, true, false, cond, ◌&&◌, ◌==◌, List, [], ◌∷◌, ◌++◌, refl, sym, ◌∙◌, ap, subst, arith}
+use Rattle.std.proofs.Common.{◌≡◌, ◌≢◌, ℕ, ◌+◌, ◌-◌, ◌*◌, ◌≤◌, ◌<◌, ⊎_elim, Bool, true, false, cond, ◌&&◌, ◌==◌, List, [], ◌∷◌, ◌++◌, refl, sym, ◌∙◌, ap, subst, arith}
 use Rattle.std.specs.List.{count_by, sum_by}
 use Rattle.std.specs.Prelude.{nat_lt}
-use Rattle.std.proofs.lemmas.Bool.{cases_eq, eq-eqb, lt-ltb}
+use Rattle.std.proofs.lemmas.Bool.{cases_eq, lt-ltb}
 use Rattle.std.proofs.lemmas.List.Sums.{sum_by_push}
 use Rattle.esa_params.specs.Sizes.{below}
 use Rattle.esa_laws.proofs.Events.{event-by}
@@ -12,8 +12,7 @@ use Rattle.esa_laws.proofs.Sums.{sum-below-full, hit-once}
 use Rattle.esa_laws.proofs.Tests.{bit, equal, same}
 use Rattle.esa_laws.proofs.TotalLaws.{by_buckets, zeros, each-wrote, exchanges-in_order}
 use Rattle.esa_laws.proofs.TurnLaws.{events-push}
-use Rattle.esa_spec.specs.Turns.{event_of, events, next, next_phase, claims, held, is_write_at, order, writes}
-use Rattle.esa_spec.specs.declared.event.Event.{Event}
+use Rattle.esa_spec.specs.Turns.{event_of, events, next, next_phase, held, is_write_at, order, writes}
 use Rattle.esa_spec.specs.declared.event.Event.TheVariants.{Write}
 
 -- a turn that writes a chunk is one of its bucket's round

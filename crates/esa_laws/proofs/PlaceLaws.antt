@@ -312,16 +312,16 @@ module _ (p : Sizes) (d : Draw) (h : List ℕ) (drawn : IsDrawn p d) (all : writ
       let single = λ (j : ℕ) (j_in : j < p.b). once p.b h j all j_in in
       let chunks = sum_by (λ j. length (chunk p d o (exchange_of o j) i)) (below p.b) in
       sym (
-        length-filter_map (entry (imports p d o i)) (d.order i)
-        ∙ arranged-sum held_in (imports p d o i) (d.order i)
-        (subst (λ n. IsPermutation (below n) (d.order i)) (sym (length-imports p d drawn o each perm single i (fits-each i i_in))) (drawn.orders_permute i i_in))
-        ∙ sum_by-append held_in (flat_map (padded_chunk p d o i) (below p.b)) (padded p.k (tail p d o i))
-        ∙ ap (λ y. y + sum_by held_in (padded p.k (tail p d o i))) (sum-of-flat_map held_in (padded_chunk p d o i) (below p.b))
-        ∙ ap (λ y. y + sum_by held_in (padded p.k (tail p d o i)))
-        (sum-below-same (λ j. sum_by held_in (padded_chunk p d o i j)) (λ j. length (chunk p d o (exchange_of o j) i)) p.b
-        (λ j j_in. padded-held p.c (chunk p d o (exchange_of o j) i)))
-        ∙ ap (λ y. chunks + y) (padded-held p.k (tail p d o i))
-        ∙ ap (λ y. chunks + y) (length-queued p d o p.b i)
+      length-filter_map (entry (imports p d o i)) (d.order i)
+      ∙ arranged-sum held_in (imports p d o i) (d.order i)
+      (subst (λ n. IsPermutation (below n) (d.order i)) (sym (length-imports p d drawn o each perm single i (fits-each i i_in))) (drawn.orders_permute i i_in))
+      ∙ sum_by-append held_in (flat_map (padded_chunk p d o i) (below p.b)) (padded p.k (tail p d o i))
+      ∙ ap (λ y. y + sum_by held_in (padded p.k (tail p d o i))) (sum-of-flat_map held_in (padded_chunk p d o i) (below p.b))
+      ∙ ap (λ y. y + sum_by held_in (padded p.k (tail p d o i)))
+      (sum-below-same (λ j. sum_by held_in (padded_chunk p d o i j)) (λ j. length (chunk p d o (exchange_of o j) i)) p.b
+      (λ j j_in. padded-held p.c (chunk p d o (exchange_of o j) i)))
+      ∙ ap (λ y. chunks + y) (padded-held p.k (tail p d o i))
+      ∙ ap (λ y. chunks + y) (length-queued p d o p.b i)
       )
 
   pub length-all_parts : (m : ℕ) → m ≤ p.b

@@ -1,11 +1,11 @@
 -- No slot is written twice in an attempt, and no slot of the input in a run.
-use Rattle.std.proofs.Common.{◌≡◌, ℕ, zero, suc, ◌+◌, ◌*◌, ◌^◌, ◌≤◌, ◌<◌, ⊎_elim, Bool, true, false, cond, ◌&&◌, ◌==◌, List, [], ◌∷◌, ◌++◌, map, refl, sym, ◌∙◌, ap, subst, arith, length}
-use Rattle.std.specs.List.{count_by, sum_by, filter_map, flat_map}
+use Rattle.std.proofs.Common.{◌≡◌, ℕ, zero, suc, ◌+◌, ◌*◌, ◌^◌, ◌≤◌, ◌<◌, ⊎_elim, Bool, true, false, cond, ◌&&◌, ◌==◌, List, [], ◌∷◌, ◌++◌, map, refl, sym, ◌∙◌, ap, subst, arith}
+use Rattle.std.specs.List.{count_by, filter_map}
 use Rattle.std.specs.Prelude.{Option, Some, None, unwrap_or}
 use Rattle.std.proofs.lemmas.Bool.{cases_lt, eq-eqb}
 use Rattle.std.proofs.lemmas.List.Sums.{sum_by-cons, sum_by-append}
 use Rattle.esa_params.specs.Sizes.{Sizes, ArePlanned, below}
-use Rattle.esa_params.specs.Slots.{at, access_of, number_of, nonce_of}
+use Rattle.esa_params.specs.Slots.{at, access_of, nonce_of}
 use Rattle.esa_params.specs.declared.slot.Slot.{Slot}
 use Rattle.esa_params.specs.declared.slot.Region.TheVariants.{Input, Mid, Tail, Output}
 use Rattle.esa_params.specs.declared.slot.Op.TheVariants.{Read as Reads, Write as Writes}
@@ -16,7 +16,7 @@ use Rattle.esa_laws.proofs.PermLaws.{occurs-cons}
 use Rattle.esa_laws.proofs.Ranges.{map-below-suc}
 use Rattle.esa_laws.proofs.Tests.{bit, equal}
 use Rattle.esa_spec.specs.Draws.{Draw}
-use Rattle.esa_spec.specs.Traces.{asked, made, spread, written_input, load, read_chunk, import_reads, step_accesses, walk, compression, written_tail, drain, rest, attempt_trace, is_failed, attempts, read_output, scan, scans, good_attempt, trace, written_nonce, writes_number, writes_in}
+use Rattle.esa_spec.specs.Traces.{asked, made, spread, written_input, load, read_chunk, step_accesses, walk, compression, written_tail, drain, rest, attempt_trace, is_failed, attempts, read_output, scan, scans, good_attempt, trace, written_nonce, writes_number, writes_in}
 use Rattle.esa_spec.specs.Turns.{events, order}
 use Rattle.esa_spec.specs.Verdicts.{failing, is_finished, left, Step, Import, Put, steps, step_verdict, is_good}
 use Rattle.esa_spec.specs.declared.event.Event.{Event}

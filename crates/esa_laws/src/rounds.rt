@@ -41,6 +41,7 @@ pub fn each_pair_once()
 pub fn workers_are_done()
     ensures done { (b : ℕ) (h : List ℕ) (v : ℕ) → turns_of v h ≡ b * (b + 3) → next b h v ≡ Done }
     ensures written { (b workers : ℕ) (h : List ℕ) → 1 ≤ workers → All (λ v. v < workers) h
-        → ((v : ℕ) → v < workers → (next_phase b h v ≢ 0) × (b ≤ held b h v)) → writes b h ≡ b * b }    ensures turns { (b workers : ℕ) (h : List ℕ) → 1 ≤ workers → All (λ v. v < workers) h
+        → ((v : ℕ) → v < workers → (next_phase b h v ≢ 0) × (b ≤ held b h v)) → writes b h ≡ b * b }
+    ensures turns { (b workers : ℕ) (h : List ℕ) → 1 ≤ workers → All (λ v. v < workers) h
         → ((v : ℕ) → v < workers → (x : ℕ) × (x < length h) × (slice_index h x ≡ v) × (event_at b h x ≡ Done)) → writes b h ≡ b * b }
 {}
