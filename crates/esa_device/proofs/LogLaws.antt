@@ -142,8 +142,7 @@ same_bytes : (block : Option (List ℕ)) (given written : List ℕ) → block �
 same_bytes block given written first second = cc (first, second)
 
 pub access-carried : {T E : Type 0} (access : Access) (result : Result T E) (bytes : List ℕ) → (carried_by access result bytes).access ≡ access
-access-carried access (Ok done) bytes = refl
-access-carried access (Err failure) bytes = refl
+access-carried access result bytes = refl
 
 gave-held : {T E : Type 0} (access : Access) (result : Result T E) (out given : List ℕ) (block : Option (List ℕ))
     → OnOk result (block ≡ Some out) → Gave (carried_by access result out) given → block ≡ Some given

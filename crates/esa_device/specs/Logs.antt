@@ -11,10 +11,14 @@ pub record Carried : Type 0 where
   pub access : Access
   pub bytes : Option (List ℕ)
 
+-- the bytes that moved, unless the access failed
+abbrev pub moved : {T E : Type 0} → Result T E → List ℕ → Option (List ℕ)
+moved (Ok done) bytes = Some bytes
+moved (Err failure) bytes = None
+
 -- what is noted of an access that was made
 abbrev pub carried_by : {T E : Type 0} → Access → Result T E → List ℕ → Carried
-carried_by access (Ok done) bytes = record { access = access; bytes = Some bytes }
-carried_by access (Err failure) bytes = record { access = access; bytes = None }
+carried_by access result bytes = record { access = access; bytes = moved result bytes }
 
 -- the operation writes
 abbrev pub is_write : Op → Bool
