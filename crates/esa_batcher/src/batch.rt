@@ -7,6 +7,7 @@ ghost use Rattle.esa_params.specs.Form.{envelope_length};
 ghost use Rattle.esa_batcher.specs.Batched.{IsBatch, batch_front, batch_bytes};
 ghost use Rattle.esa_outside.specs.Cause.{HasCause};
 ghost use Rattle.esa_page.specs.Underway.{IsWhole, IsLeft};
+ghost use Rattle.esa_page.specs.Writing.{HasWritten, HasBroken};
 
 use crate::envelopes::Envelopes;
 use crate::write::write_parts;
@@ -88,6 +89,8 @@ impl Batch {
 
         // A failed call leaves the file as it was, or a front of the whole file.
         ensures left { OnErr result (IsLeft (K.told cabinet.old) name.now (batch_bytes self.now) (K.told cabinet.new)) }
+        ensures heard { OnOk result (HasWritten (K.heard cabinet.old) name.now (batch_bytes self.now) (K.heard cabinet.new)) }
+        ensures heard_broken { OnErr result (HasBroken (K.heard cabinet.old) name.now (batch_bytes self.now) (K.heard cabinet.new)) }
         ensures cause { HasCause (K.faults cabinet.old) (K.faults cabinet.new) ⊥ result }
     {
         let mut front = [0; 15];
@@ -108,6 +111,10 @@ impl Records for Batch {
     ghost size = { λ batch. envelope_length batch.form };
 
     ghost faults = { λ batch. 0 };
+
+    ghost heard = { λ batch. [] };
+
+    ghost part = { λ batch first bytes. [] };
 
     fn faults(&self) -> u64 {
         0
