@@ -15,9 +15,6 @@ use esa_outside::{Cabinet, Failed, Records};
 use esa_params::Form;
 use std::marker::Model;
 
-/// The most records of a batch.
-pub const MOST_RECORDS: u32 = 262_144;
-
 /// Outer envelopes of one form and key epoch, in rising order.
 #[derive(Drop)]
 pub struct Batch {
