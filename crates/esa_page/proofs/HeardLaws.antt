@@ -1,5 +1,5 @@
 -- A file that is being written, by what the cabinet was heard to take.
-use Rattle.std.proofs.Common.{◌≡◌, inl, inr, ℕ, List, [], ◌∷◌, ◌++◌, map, refl, sym, ap, ◌∙◌, append-nil, append_assoc}
+use Rattle.std.proofs.Common.{◌≡◌, inl, inr, ℕ, List, [], ◌∷◌, ◌++◌, map, refl, sym, ap, subst, ◌∙◌, append-nil, append_assoc}
 use Rattle.std.specs.List.{concat}
 use Rattle.esa_outside.specs.Heard.{Event, started, added}
 use Rattle.esa_page.specs.Writing.{written, IsWriting, HasWritten, HasBroken}
@@ -54,3 +54,21 @@ pub HasBroken-longer : (before : List Event) (name text more : List ℕ) (now : 
 HasBroken-longer before name text more now (inl same) = inl same
 HasBroken-longer before name text more now (inr (pieces, rest, heard, whole)) =
     inr (pieces, rest ++ more, heard, sym (append_assoc (concat pieces) rest more) ∙ ap (λ ys. ys ++ more) whole)
+
+-- what is put behind what was done
+pub writing_none : (before : List Event) (name text page : List ℕ) (now : List Event) → IsWriting before name text page now → IsWriting before name (text ++ []) page now
+writing_none before name text page now writing = subst (λ ys. IsWriting before name ys page now) (sym (append-nil text)) writing
+
+pub writing_more : (before : List Event) (name text done more page : List ℕ) (now : List Event) → IsWriting before name ((text ++ done) ++ more) page now → IsWriting before name (text ++ (done ++ more)) page now
+writing_more before name text done more page now writing = subst (λ ys. IsWriting before name ys page now) (append_assoc text done more) writing
+
+-- all is done
+pub writing_all : (before : List Event) (name text done rest whole page : List ℕ) (now : List Event) → whole ≡ done ++ rest → rest ≡ [] → IsWriting before name (text ++ done) page now → IsWriting before name (text ++ whole) page now
+writing_all before name text done rest whole page now parts none writing =
+    let all : done ≡ whole = sym (append-nil done) ∙ ap (λ ys. done ++ ys) (sym none) ∙ sym parts in
+    subst (λ ys. IsWriting before name (text ++ ys) page now) all writing
+
+-- a front of what was done is a front of the whole
+pub broken_whole : (before : List Event) (name text done rest whole : List ℕ) (now : List Event) → whole ≡ done ++ rest → HasBroken before name (text ++ done) now → HasBroken before name (text ++ whole) now
+broken_whole before name text done rest whole now parts broken =
+    subst (λ ys. HasBroken before name ys now) (append_assoc text done rest ∙ ap (λ ys. text ++ ys) (sym parts)) (HasBroken-longer before name (text ++ done) rest now broken)
