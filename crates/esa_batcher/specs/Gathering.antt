@@ -2,7 +2,6 @@
 use Rattle.std.specs.Prelude.{◌≤◌, length}
 use Rattle.esa_params.specs.Form.{envelope_length}
 use Rattle.esa_header.specs.Pieces.{HaveLength}
-use Rattle.esa_batcher.specs.declared.batch.TheConstants.{MOST_RECORDS}
 use Rattle.esa_batcher.specs.declared.batcher.Batcher.TheInside.{Inside}
 use Rattle.esa_batcher.specs.Adding.{Gathered}
 use Rattle.esa_batcher.specs.Envelopes.{list_of, form_of, capacity_of}
@@ -13,5 +12,5 @@ gathered_in a = record { form = form_of a.envelopes; room = a.room; list = list_
 -- the envelopes have the form's length, are no more than a batch has, and have the room that was asked for
 pub record IsGathered (a : Inside) : Type 0 where
   pub lengths : HaveLength (envelope_length (form_of a.envelopes)) (list_of a.envelopes)
-  pub number : length (list_of a.envelopes) ≤ MOST_RECORDS
+  pub number : length (list_of a.envelopes) ≤ 262144
   pub room : a.room ≤ capacity_of a.envelopes

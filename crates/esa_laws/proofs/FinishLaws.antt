@@ -54,7 +54,7 @@ All-one w v v_in = λ k d k_in. first k d k_in
     first zero d k_in = v_in
     first (suc k) d k_in = absurd (omega arith)
 
-All-below : (w n : ℕ) → n ≤ w → AllBelow w (below n)
+pub All-below : (w n : ℕ) → n ≤ w → AllBelow w (below n)
 All-below w zero n_in = All-nil w
 All-below w (suc n) n_in =
     subst (AllBelow w) (sym (below-suc n)) (All-append (λ v. v < w) (below n) (n ∷ []) (All-below w n (omega arith)) (All-one w n n_in))

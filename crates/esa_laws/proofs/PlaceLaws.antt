@@ -31,7 +31,7 @@ use Rattle.esa_spec.specs.Verdicts.{targets, reached, left, is_left, drained, se
 use Rattle.esa_spec.specs.declared.event.Verdict.TheVariants.{Good}
 
 -- the numbers of a list by its indexes
-by-index : {X : Type 0} (xs : List X) (d : X) → xs ≡ map (λ y. get_or xs y d) (below (length xs))
+pub by-index : {X : Type 0} (xs : List X) (d : X) → xs ≡ map (λ y. get_or xs y d) (below (length xs))
 by-index xs d = fill_by_all (λ y. get_or xs y d) xs (length xs) d refl (λ k k_in. refl)
 
 -- how often x stands in an optional place
@@ -60,28 +60,28 @@ arranged-sum weight xs ys perm =
 arranged-counts : (x : ℕ) (xs : List (Option ℕ)) (ys : List ℕ) → IsPermutation (below (length xs)) ys → occurrences x (filter_map (entry xs) ys) ≡ sum_by (hits x) xs
 arranged-counts x xs ys perm = occurs-filter_map x (entry xs) ys ∙ arranged-sum (hits x) xs ys perm
 
--- how many places there are
-abbrev pub held_in : Option ℕ → ℕ
-held_in None = 0
-held_in (Some z) = 1
+-- how many values there are
+abbrev pub there : {X : Type 0} → Option X → ℕ
+there None = 0
+there (Some z) = 1
 
-length-option : (o : Option ℕ) (xs : List ℕ) → length (cons_option o xs) ≡ held_in o + length xs
+length-option : {X : Type 0} (o : Option X) (xs : List X) → length (cons_option o xs) ≡ there o + length xs
 length-option None xs = omega arith
 length-option (Some z) xs = omega arith
 
-length-filter_map : (h : ℕ → Option ℕ) (ys : List ℕ) → length (filter_map h ys) ≡ sum_by (λ y. held_in (h y)) ys
+pub length-filter_map : {X Y : Type 0} (h : X → Option Y) (ys : List X) → length (filter_map h ys) ≡ sum_by (λ y. there (h y)) ys
 length-filter_map h [] = refl
 length-filter_map h (y ∷ ys) =
-    length-option (h y) (filter_map h ys) ∙ ap (λ z. held_in (h y) + z) (length-filter_map h ys) ∙ sym (sum_by-cons (λ y. held_in (h y)) y ys)
+    length-option (h y) (filter_map h ys) ∙ ap (λ z. there (h y) + z) (length-filter_map h ys) ∙ sym (sum_by-cons (λ y. there (h y)) y ys)
 
 one-each : (xs : List ℕ) → sum_by (λ (z : ℕ). 1) xs ≡ length xs
 one-each [] = refl
 one-each (x ∷ xs) = omega (arith, sum_by-cons (λ (z : ℕ). 1) x xs, one-each xs)
 
-padded-held : (n : ℕ) (xs : List ℕ) → sum_by held_in (padded n xs) ≡ length xs
-padded-held n xs =
-    sum_by-append held_in (map Some xs) (replicate (n - length xs) None)
-    ∙ omega (arith, sum-of-map held_in Some xs, one-each xs, sum_by-replicate held_in (n - length xs) None)
+padded-there : (n : ℕ) (xs : List ℕ) → sum_by there (padded n xs) ≡ length xs
+padded-there n xs =
+    sum_by-append there (map Some xs) (replicate (n - length xs) None)
+    ∙ omega (arith, sum-of-map (there {X = ℕ}) Some xs, one-each xs, sum_by-replicate (there {X = ℕ}) (n - length xs) None)
 
 -- pads don't count
 padded-counts : (x n : ℕ) (xs : List ℕ) → sum_by (hits x) (padded n xs) ≡ occurrences x xs
@@ -239,7 +239,7 @@ module _ (p : Sizes) (d : Draw) (drawn : IsDrawn p d) (o : List ℕ) (each : len
         ∙ ap (λ y. y + occurrences x (tail p d o i)) (by-exchange (λ k. occurrences x (chunk p d o k i)))
         ∙ line-counts
 
-  length-imports : (i : ℕ) → backlog p d o p.b i ≤ p.k → length (imports p d o i) ≡ p.b * p.c + p.k
+  pub length-imports : (i : ℕ) → backlog p d o p.b i ≤ p.k → length (imports p d o i) ≡ p.b * p.c + p.k
   length-imports i fits =
       length-append (flat_map (padded_chunk p d o i) (below p.b)) (padded p.k (tail p d o i))
       ∙ omega (
@@ -313,14 +313,14 @@ module _ (p : Sizes) (d : Draw) (h : List ℕ) (drawn : IsDrawn p d) (all : writ
       let chunks = sum_by (λ j. length (chunk p d o (exchange_of o j) i)) (below p.b) in
       sym (
       length-filter_map (entry (imports p d o i)) (d.order i)
-      ∙ arranged-sum held_in (imports p d o i) (d.order i)
+      ∙ arranged-sum there (imports p d o i) (d.order i)
       (subst (λ n. IsPermutation (below n) (d.order i)) (sym (length-imports p d drawn o each perm single i (fits-each i i_in))) (drawn.orders_permute i i_in))
-      ∙ sum_by-append held_in (flat_map (padded_chunk p d o i) (below p.b)) (padded p.k (tail p d o i))
-      ∙ ap (λ y. y + sum_by held_in (padded p.k (tail p d o i))) (sum-of-flat_map held_in (padded_chunk p d o i) (below p.b))
-      ∙ ap (λ y. y + sum_by held_in (padded p.k (tail p d o i)))
-      (sum-below-same (λ j. sum_by held_in (padded_chunk p d o i j)) (λ j. length (chunk p d o (exchange_of o j) i)) p.b
-      (λ j j_in. padded-held p.c (chunk p d o (exchange_of o j) i)))
-      ∙ ap (λ y. chunks + y) (padded-held p.k (tail p d o i))
+      ∙ sum_by-append there (flat_map (padded_chunk p d o i) (below p.b)) (padded p.k (tail p d o i))
+      ∙ ap (λ y. y + sum_by there (padded p.k (tail p d o i))) (sum-of-flat_map there (padded_chunk p d o i) (below p.b))
+      ∙ ap (λ y. y + sum_by there (padded p.k (tail p d o i)))
+      (sum-below-same (λ j. sum_by there (padded_chunk p d o i j)) (λ j. length (chunk p d o (exchange_of o j) i)) p.b
+      (λ j j_in. padded-there p.c (chunk p d o (exchange_of o j) i)))
+      ∙ ap (λ y. chunks + y) (padded-there p.k (tail p d o i))
       ∙ ap (λ y. chunks + y) (length-queued p d o p.b i)
       )
 

@@ -22,7 +22,7 @@ pub use form::Form;
 pub use limits::{
     GREATEST_EPOCH, MOST_COINS_BYTES, MOST_CROWDS, MOST_INPUTS, MOST_JOB_BYTES, MOST_OF_A_CROWD,
     MOST_OF_A_NAME, MOST_RECORD_BYTES, MOST_RECORDS, MOST_SHARES, MOST_SUBMISSION_BYTES,
-    MOST_TRACE_BYTES, MOST_TURNS,
+    MOST_TRACE_BYTES, MOST_TURNS, limits_are_stated,
 };
 pub use params::{Params, ParamsRefused, Settings, check};
 pub use plan::Plan;

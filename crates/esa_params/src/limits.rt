@@ -1,5 +1,8 @@
 //! The limits, each of which stands here once. A definition states its limit as a number of its own.
 
+ghost use Rattle.std.specs.Prelude.{◌≡◌};
+ghost use Rattle.esa_params.specs.declared.limits.TheConstants.{MOST_RECORDS, MOST_CROWDS, MOST_OF_A_CROWD, MOST_BUCKETS, MOST_OF_A_CHUNK, MOST_OF_THE_STASH, MOST_OF_A_TAIL, MOST_OF_THE_QUEUE, MOST_IN_THE_MIDDLE, MOST_WORKERS, MOST_ATTEMPTS, MOST_TURNS, GREATEST_EPOCH, MOST_SHARES, MOST_INPUTS, MOST_OF_A_NAME, MOST_JOB_BYTES, MOST_COINS_BYTES, MOST_SUBMISSION_BYTES, MOST_RECORD_BYTES, MOST_TRACE_BYTES};
+
 /// The most records of a batch, and the most lines of a file of reports or of submissions.
 pub const MOST_RECORDS: u32 = 262_144;
 
@@ -62,3 +65,28 @@ pub const MOST_RECORD_BYTES: u64 = 134_217_728;
 
 /// The most bytes of a file of a trace.
 pub const MOST_TRACE_BYTES: u64 = 67_108_864;
+
+/// The limits, as numbers. What else cites a constant of this file means this number.
+pub fn limits_are_stated()
+    ensures records { MOST_RECORDS ≡ 262144 }
+    ensures crowds { MOST_CROWDS ≡ 65536 }
+    ensures of_a_crowd { MOST_OF_A_CROWD ≡ 262144 }
+    ensures buckets { MOST_BUCKETS ≡ 256 }
+    ensures chunk { MOST_OF_A_CHUNK ≡ 1024 }
+    ensures stash { MOST_OF_THE_STASH ≡ 262144 }
+    ensures tail { MOST_OF_A_TAIL ≡ 4096 }
+    ensures queue { MOST_OF_THE_QUEUE ≡ 1048576 }
+    ensures middle { MOST_IN_THE_MIDDLE ≡ 4194304 }
+    ensures workers { MOST_WORKERS ≡ 16 }
+    ensures attempts { MOST_ATTEMPTS ≡ 16 }
+    ensures turns { MOST_TURNS ≡ 4194304 }
+    ensures epoch { GREATEST_EPOCH ≡ 4294967295 }
+    ensures shares { MOST_SHARES ≡ 16 }
+    ensures inputs { MOST_INPUTS ≡ 16 }
+    ensures name { MOST_OF_A_NAME ≡ 255 }
+    ensures job_bytes { MOST_JOB_BYTES ≡ 65536 }
+    ensures coins_bytes { MOST_COINS_BYTES ≡ 16777216 }
+    ensures submission_bytes { MOST_SUBMISSION_BYTES ≡ 268435456 }
+    ensures record_bytes { MOST_RECORD_BYTES ≡ 134217728 }
+    ensures trace_bytes { MOST_TRACE_BYTES ≡ 67108864 }
+{}
