@@ -1,0 +1,4 @@
+pub mod Exchanges
+pub mod Marks
+pub mod Parts
+pub mod Standing
