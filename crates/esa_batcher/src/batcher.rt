@@ -14,7 +14,7 @@ use crate::batch::Batch;
 use crate::digits::NotAdded;
 use crate::envelopes::Envelopes;
 use crate::refused::{AddRefused, BatchRefused};
-use esa_line::{LineCause, LineRefused, check_front, split_tab};
+use esa_line::{LineCause, LineRefused, head_cause, head_in};
 use esa_params::{Form, MOST_RECORDS};
 use std::alloc::{AllocError, Global};
 use std::marker::Model;
@@ -41,15 +41,12 @@ impl Model for Batcher {
 fn text_of(line: &[u8]) -> Result<&[u8], LineCause>
     ensures { MatchResult result (λ text. text_in line.now ≡ Ok text.now) (λ cause. text_in line.now ≡ Err cause) }
 {
-    let Some((moment, rest)) = split_tab(line) else {
+    let Some(head) = head_in(line) else {
         return Err(LineCause::MissingField);
     };
-    let Some((sender, text)) = split_tab(rest) else {
-        return Err(LineCause::MissingField);
-    };
-    match check_front(moment, sender) {
-        Ok(()) => Ok(text),
-        Err(cause) => Err(cause),
+    match head_cause(line, &head) {
+        None => Ok(&line[head.length..]),
+        Some(cause) => Err(cause),
     }
 }
 

@@ -1,2 +1,2 @@
 pub mod LineSteps
-pub mod TabLemmas
+

@@ -11,7 +11,7 @@ use Rattle.esa_line.specs.declared.refused.LineCause.TheVariants.{MissingField, 
 use Rattle.esa_line.specs.declared.refused.LineRefused.{LineRefused}
 use Rattle.esa_encoder.specs.declared.submission.EncodeRefused.{EncodeRefused}
 use Rattle.esa_encoder.specs.declared.submission.EncodeRefused.TheVariants.{Line}
-use Rattle.esa_encoder.specs.Line.{tabs, head_cause}
+use Rattle.esa_line.specs.Line.{tabs, head_cause}
 use Rattle.esa_encoder.specs.Report.{value_of, report_cause}
 use Rattle.esa_encoder.specs.Encoded.{nonce_of, submission_of, submissions, line_refused, first_refused}
 

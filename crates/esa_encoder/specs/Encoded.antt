@@ -8,7 +8,7 @@ use Rattle.esa_envelope.specs.declared.keys.Keys.{Keys}
 use Rattle.esa_line.specs.declared.refused.LineRefused.{LineRefused}
 use Rattle.esa_encoder.specs.declared.submission.EncodeRefused.{EncodeRefused}
 use Rattle.esa_encoder.specs.declared.submission.EncodeRefused.TheVariants.{Line, TooMany}
-use Rattle.esa_encoder.specs.Line.{head_of}
+use Rattle.esa_line.specs.Line.{head_of}
 use Rattle.esa_encoder.specs.Report.{crowd_of, value_of, report_cause}
 use Rattle.esa_encoder.specs.Sealed.{sealed_twice}
 

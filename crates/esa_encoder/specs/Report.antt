@@ -8,7 +8,7 @@ use Rattle.esa_line.specs.declared.refused.LineCause.{LineCause}
 use Rattle.esa_line.specs.declared.refused.LineCause.TheVariants.{MissingField, TooLong}
 use Rattle.esa_encoder.specs.declared.report.ReportLine.{ReportLine}
 use Rattle.esa_line.specs.Front.{is_tab}
-use Rattle.esa_encoder.specs.Line.{tabs, rest_of, head_cause, IsHead}
+use Rattle.esa_line.specs.Line.{tabs, rest_of, head_cause, IsHead}
 
 abbrev pub crowd_of : List ℕ → List ℕ
 crowd_of line = before_first is_tab (rest_of line)

@@ -5,7 +5,6 @@
 //! crate stands on `esa_bytes`, `esa_envelope`, `esa_line`, `esa_params`, `esa_report`, `hex` and `sha2`.
 #![tactic(auto)]
 
-mod head;
 mod nonces;
 mod report;
 mod seal;

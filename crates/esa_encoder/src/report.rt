@@ -1,11 +1,10 @@
 //! The fields of a line of reports: moment, sender, crowd and value.
 
 ghost use Rattle.std.specs.Prelude.{◌≡◌, ◌<◌, ◌↔◌, None, Some, IsNone, IfSome, MatchResult};
-ghost use Rattle.esa_encoder.specs.Line.{tabs};
+ghost use Rattle.esa_line.specs.Line.{tabs};
 ghost use Rattle.esa_encoder.specs.Report.{report_cause, IsReportLine};
 
-use crate::head::{Head, head_cause, head_in, tab_place};
-use esa_line::LineCause;
+use esa_line::{Head, LineCause, head_cause, head_in, tab_place};
 use esa_params::Form;
 
 /// Where the fields of a line of reports stand.

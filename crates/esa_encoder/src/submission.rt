@@ -5,19 +5,15 @@ ghost use Rattle.hex.specs.Hex.{encode_lower};
 ghost use Rattle.esa_bytes.specs.Lines.{text_lines};
 ghost use Rattle.esa_params.specs.Form.{envelope_length};
 ghost use Rattle.esa_encoder.specs.declared.submission.EncodeRefused.TheVariants as refusal;
-ghost use Rattle.esa_encoder.specs.Line.{head_of};
+ghost use Rattle.esa_line.specs.Line.{head_of};
 ghost use Rattle.esa_encoder.specs.Encoded.{nonce_of, envelope_of, submission_of, submissions, line_refused, first_refused, encoded};
 
 use crate::report::report_in;
 use crate::seal::{put_hex, seal_report};
-use esa_bytes::line_at;
 use esa_envelope::{Keys, Prepared, prepare};
-use esa_line::{LineRefused, line_count};
-use esa_params::Form;
+use esa_line::{LineRefused, line_count, split_line};
+use esa_params::{Form, MOST_RECORDS};
 use std::alloc::{AllocError, Global};
-
-/// The most lines that are encoded at once.
-const MOST_LINES: u64 = 262_144;
 
 /// The length of the longest outer envelope, in bytes: that of form Two.
 const ENVELOPE: usize = 304;
@@ -177,20 +173,12 @@ fn add_lines(
     ensures refused { IfErr result (λ e. (e ≡ refusal.OutOfMemory)
         ⊎ (option_map refusal.Line (first_refused form 1 (text_lines reports.now)) ≡ Some e)) }
 {
-    let mut at = 0;
+    let mut rest = reports;
     let mut number = 0;
-    while let Some(line) = line_at(reports, at) {
+    while let Some((line, behind)) = split_line(rest) {
         number += 1;
-        add_line(
-            out,
-            form,
-            &reports[line.start..line.end],
-            number,
-            outer,
-            inner,
-            base,
-        )?;
-        at = line.next;
+        add_line(out, form, line, number, outer, inner, base)?;
+        rest = behind;
     }
     Ok(())
 }
@@ -211,7 +199,7 @@ pub fn encode(
         (λ refused. (refused ≡ refusal.OutOfMemory) ⊎ (encoded form outer.now inner.now base reports.now ≡ Err refused)) }
 {
     let count = line_count(reports);
-    if MOST_LINES < count {
+    if count > u64::from(MOST_RECORDS) {
         return Err(EncodeRefused::TooMany { n: count });
     }
     let line = 2 * form.envelope() as usize + 1;

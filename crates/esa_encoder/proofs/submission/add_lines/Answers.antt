@@ -16,13 +16,11 @@ returns-in_err-add_line-clause-refused c =
 pub loop-line-preserved : goal.loop-line-preserved
 loop-line-preserved c =
     let i = c.loop-line.invariant in
-    let place = c.in-Some.ensures.place in
     let number = c.loop-line.number + 1 in
     let sealed = submissions c.args.form c.args.outer.now c.args.inner.now c.args.base in
     let more = ap (sealed number) c.in-Some.ensures.lines in
     record {
-      inside = omega (arith, place.forward);
-      few = omega (arith, place.forward);
+      few = omega (arith, i.few, c.in-Some.ensures.shorter);
       refusals = i.refusals ∙ ap (first_refused c.args.form number) c.in-Some.ensures.lines ∙ refused_on _ _ _ _ c.in_ok-add_line.ensures.accepted;
       written = grown c.args.out.now.items (sealed 1 (text_lines c.args.reports.now)) c.loop-line.out.items _ _ _ _ i.written (more ∙ submissions_on _ _ _ _ _ _ _) c.in_ok-add_line.ensures.added;
     }

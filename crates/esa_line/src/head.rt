@@ -2,9 +2,10 @@
 
 ghost use Rattle.std.specs.Prelude.{◌≡◌, ◌<◌, ◌↔◌, position, IsNone, IfSome};
 ghost use Rattle.esa_line.specs.Front.{is_tab};
-ghost use Rattle.esa_encoder.specs.Line.{tabs, head_cause, IsHead};
+ghost use Rattle.esa_line.specs.Line.{tabs, head_cause, IsHead};
 
-use esa_line::{LineCause, check_front};
+use crate::LineCause;
+use crate::front::check_front;
 
 /// Where the head of a line ends: a moment, a tab, a sender and a tab stand at the line's front.
 #[derive(Clone, Copy, PartialEq, Eq, Debug)]
@@ -16,7 +17,7 @@ pub struct Head {
 }
 
 /// The head of a line. `None` exactly where the line has fewer than two tabs.
-pub(crate) fn head_in(line: &[u8]) -> Option<Head>
+pub fn head_in(line: &[u8]) -> Option<Head>
     ensures none { IsNone result ↔ (tabs line.now < 2) }
     ensures place { IfSome result (IsHead line.now) }
 {
@@ -29,7 +30,7 @@ pub(crate) fn head_in(line: &[u8]) -> Option<Head>
 }
 
 /// What is wrong with the head of a line: the moment, or else the sender.
-pub(crate) fn head_cause(line: &[u8], head: &Head) -> Option<LineCause>
+pub fn head_cause(line: &[u8], head: &Head) -> Option<LineCause>
     requires { IsHead line.now head.now }
     ensures { result ≡ head_cause line.now }
 {
@@ -39,7 +40,7 @@ pub(crate) fn head_cause(line: &[u8], head: &Head) -> Option<LineCause>
 }
 
 /// The place of the first tab.
-pub(crate) fn tab_place(text: &[u8]) -> Option<usize>
+pub fn tab_place(text: &[u8]) -> Option<usize>
     ensures { result ≡ position is_tab text.now }
 {
     text.iter().position(|byte| *byte == b'\t')

@@ -4,7 +4,7 @@ use Rattle.std.specs.List.{before_first, after_first}
 use Rattle.std.specs.Result.{result_err}
 use Rattle.esa_line.specs.declared.refused.LineCause.{LineCause}
 use Rattle.esa_line.specs.Front.{is_tab, front_in}
-use Rattle.esa_encoder.specs.declared.head.Head.{Head}
+use Rattle.esa_line.specs.declared.head.Head.{Head}
 
 -- how many tabs a line has
 abbrev pub tabs : List ℕ → ℕ

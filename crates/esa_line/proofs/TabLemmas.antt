@@ -4,9 +4,9 @@ use Rattle.std.specs.List.{position, position_or_len, before_first, after_first}
 use Rattle.std.proofs.lemmas.Bool.{cases_Bool, cases_lt, cond-true, cond-false, lt-ltb, le-ltb, eqb-true}
 use Rattle.std.proofs.lemmas.List.{take_at, drop_at, take_rest, length-take-le}
 use Rattle.std.proofs.lemmas.List.Sums.{sum_by-cons, split_at_first, passes_at_first}
-use Rattle.esa_encoder.specs.declared.head.Head.{Head}
+use Rattle.esa_line.specs.declared.head.Head.{Head}
 use Rattle.esa_line.specs.Front.{is_tab}
-use Rattle.esa_encoder.specs.Line.{tabs, moment_of, sender_of, rest_of, head_of, IsHead}
+use Rattle.esa_line.specs.Line.{tabs, moment_of, sender_of, rest_of, head_of, IsHead}
 
 -- the first tab of a text stands at this place
 pub record HasTab (text : List ℕ) (place : ℕ) : Type 0 where

@@ -1,6 +1,6 @@
 use Rattle.std.proofs.Common.{◌∙◌, sym, arith, refl}
-use Rattle.esa_encoder.proofs.TabLemmas.{first_missing, second_missing, both_found, two_tabs, head_at}
-use Rattle.esa_encoder.proofs.head.head_in.Goals as goal
+use Rattle.esa_line.proofs.TabLemmas.{first_missing, second_missing, both_found, two_tabs, head_at}
+use Rattle.esa_line.proofs.head.head_in.Goals as goal
 
 pub returns-in_err-moment-clause-none : goal.returns-in_err-moment-clause-none
 returns-in_err-moment-clause-none c = (λ _. first_missing c.args.line.now (sym c.tab_place.ensures ∙ c.in_err-moment.was), λ _. rw c.from_residual.ensures refl)
