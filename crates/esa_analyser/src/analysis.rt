@@ -9,6 +9,7 @@ ghost use Rattle.esa_params.specs.Form.{inner_length};
 ghost use Rattle.esa_outside.specs.Files.{Files};
 ghost use Rattle.esa_outside.specs.Cause.{HasCause};
 ghost use Rattle.esa_outside.specs.Told.{HoldsFront};
+ghost use Rattle.esa_page.specs.Writing.{HasWritten, HasBroken};
 ghost use Rattle.esa_analyser.specs.Rows.{IsDatabase, database_bytes};
 ghost use Rattle.esa_analyser.specs.Opened.{database_of, gives, count_in};
 
@@ -106,6 +107,8 @@ impl Analysis {
         ensures failed { (files : Files) → K.told cabinet.old ≡ Some files
             → OnErr result ((K.told cabinet.new ≡ Some files) ⊎ HoldsFront files name.now (database_bytes self.now.form self.now.database) (K.told cabinet.new)) }
         ensures silent { K.told cabinet.old ≡ None → K.told cabinet.new ≡ None }
+        ensures heard { OnOk result (HasWritten (K.heard cabinet.old) name.now (database_bytes self.now.form self.now.database) (K.heard cabinet.new)) }
+        ensures heard_broken { OnErr result (HasBroken (K.heard cabinet.old) name.now (database_bytes self.now.form self.now.database) (K.heard cabinet.new)) }
         ensures cause { HasCause (K.faults cabinet.old) (K.faults cabinet.new) ⊥ result }
 
         // It is a database that a file can hold, so `read_db` accepts what was written.

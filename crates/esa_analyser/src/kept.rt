@@ -7,7 +7,9 @@ ghost use Rattle.esa_analyser.specs.Database.{rows_of};
 ghost use Rattle.esa_analyser.specs.Opened.{reported};
 ghost use Rattle.esa_outside.specs.Files.{Files};
 ghost use Rattle.esa_outside.specs.Cause.{HasCause};
+ghost use Rattle.esa_outside.specs.Heard.{Event};
 ghost use Rattle.esa_page.specs.Underway.{IsUnderway, IsWhole, IsLeft};
+ghost use Rattle.esa_page.specs.Writing.{IsWriting, HasWritten, HasBroken};
 ghost use Rattle.esa_analyser.specs.RunBytes.{run_bytes};
 ghost use Rattle.esa_analyser.specs.KeptBytes.{kept_bytes};
 ghost use Rattle.esa_analyser.specs.Kept.{keys_of, form_of, capacity_of, values_of, AreSorted};
@@ -101,6 +103,12 @@ impl Kept {
         ensures failed { (before : Option Files) (text : List ℕ)
             → IsUnderway before name.now text page.old (K.told cabinet.old)
             → OnErr result (IsLeft before name.now (text ++ run_bytes (keys_of self.now)) (K.told cabinet.new)) }
+        ensures heard { (before : List Event) (text : List ℕ)
+            → IsWriting before name.now text page.old (K.heard cabinet.old)
+            → OnOk result (IsWriting before name.now (text ++ run_bytes (keys_of self.now)) page.new (K.heard cabinet.new)) }
+        ensures heard_broken { (before : List Event) (text : List ℕ)
+            → IsWriting before name.now text page.old (K.heard cabinet.old)
+            → OnErr result (HasBroken before name.now (text ++ run_bytes (keys_of self.now)) (K.heard cabinet.new)) }
         ensures cause { (before : Option Files) (text : List ℕ)
             → IsUnderway before name.now text page.old (K.told cabinet.old)
             → HasCause (K.faults cabinet.old) (K.faults cabinet.new) ⊥ result }
@@ -125,6 +133,8 @@ pub(crate) fn write_kept<K: Cabinet>(
     requires rows { rows ≡ length (rows_of (values_of kept.now)) }
     ensures whole { OnOk result (IsWhole (K.told cabinet.old) name.now (kept_bytes kept.now unopened) (K.told cabinet.new)) }
     ensures left { OnErr result (IsLeft (K.told cabinet.old) name.now (kept_bytes kept.now unopened) (K.told cabinet.new)) }
+    ensures heard { OnOk result (HasWritten (K.heard cabinet.old) name.now (kept_bytes kept.now unopened) (K.heard cabinet.new)) }
+    ensures heard_broken { OnErr result (HasBroken (K.heard cabinet.old) name.now (kept_bytes kept.now unopened) (K.heard cabinet.new)) }
     ensures cause { HasCause (K.faults cabinet.old) (K.faults cabinet.new) ⊥ result }
 {
     let mut page = Page::start(cabinet, name)?;

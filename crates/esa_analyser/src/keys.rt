@@ -14,7 +14,9 @@ ghost use Rattle.esa_analyser.specs.SortKey.{key_value, IsSortKey};
 ghost use Rattle.esa_analyser.specs.RunBytes.{run_bytes};
 ghost use Rattle.esa_outside.specs.Files.{Files};
 ghost use Rattle.esa_outside.specs.Cause.{HasCause};
+ghost use Rattle.esa_outside.specs.Heard.{Event};
 ghost use Rattle.esa_page.specs.Underway.{IsUnderway, IsLeft};
+ghost use Rattle.esa_page.specs.Writing.{IsWriting, HasBroken};
 
 use crate::key::{open, value};
 use crate::put::put_row;
@@ -129,6 +131,12 @@ pub(crate) fn put_runs<const P: usize, K: Cabinet>(
     ensures failed { (before : Option Files) (text : List ℕ)
         → IsUnderway before name.now text page.old (K.told cabinet.old)
         → OnErr result (IsLeft before name.now (text ++ run_bytes keys.now) (K.told cabinet.new)) }
+    ensures heard { (before : List Event) (text : List ℕ)
+        → IsWriting before name.now text page.old (K.heard cabinet.old)
+        → OnOk result (IsWriting before name.now (text ++ run_bytes keys.now) page.new (K.heard cabinet.new)) }
+    ensures heard_broken { (before : List Event) (text : List ℕ)
+        → IsWriting before name.now text page.old (K.heard cabinet.old)
+        → OnErr result (HasBroken before name.now (text ++ run_bytes keys.now) (K.heard cabinet.new)) }
     ensures cause { (before : Option Files) (text : List ℕ)
         → IsUnderway before name.now text page.old (K.told cabinet.old)
         → HasCause (K.faults cabinet.old) (K.faults cabinet.new) ⊥ result }

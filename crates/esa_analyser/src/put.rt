@@ -3,7 +3,9 @@
 ghost use Rattle.std.specs.Prelude.{◌≡◌, ◌≤◌, ◌^◌, ◌++◌, List, ℕ, Option, length, take, OnOk, OnErr};
 ghost use Rattle.esa_outside.specs.Files.{Files};
 ghost use Rattle.esa_outside.specs.Cause.{HasCause};
+ghost use Rattle.esa_outside.specs.Heard.{Event};
 ghost use Rattle.esa_page.specs.Underway.{IsUnderway, IsLeft};
+ghost use Rattle.esa_page.specs.Writing.{IsWriting, HasBroken};
 ghost use Rattle.esa_params.specs.declared.form.Form.{Form};
 ghost use Rattle.esa_analyser.specs.Rows.{row_bytes, front_bytes};
 
@@ -67,6 +69,12 @@ pub(crate) fn put_row<K: Cabinet>(
     ensures failed { (before : Option Files) (text : List ℕ)
         → IsUnderway before name.now text page.old (K.told cabinet.old)
         → OnErr result (IsLeft before name.now text (K.told cabinet.new)) }
+    ensures heard { (before : List Event) (text : List ℕ)
+        → IsWriting before name.now text page.old (K.heard cabinet.old)
+        → OnOk result (IsWriting before name.now (text ++ row_bytes (value.now, count)) page.new (K.heard cabinet.new)) }
+    ensures heard_broken { (before : List Event) (text : List ℕ)
+        → IsWriting before name.now text page.old (K.heard cabinet.old)
+        → OnErr result (HasBroken before name.now text (K.heard cabinet.new)) }
     ensures cause { (before : Option Files) (text : List ℕ)
         → IsUnderway before name.now text page.old (K.told cabinet.old)
         → HasCause (K.faults cabinet.old) (K.faults cabinet.new) ⊥ result }

@@ -4,8 +4,10 @@ ghost use Rattle.std.specs.Prelude.{◌≡◌, ◌⊎◌, ◌≤◌, ◌<◌, �
 ghost use Rattle.std.specs.FinMap as map;
 ghost use Rattle.esa_outside.specs.Files.{Files};
 ghost use Rattle.esa_outside.specs.Cause.{HasCause};
+ghost use Rattle.esa_outside.specs.Heard.{Event};
 ghost use Rattle.esa_outside.specs.Told.{HoldsFront};
 ghost use Rattle.esa_page.specs.Underway.{IsUnderway, IsWhole, IsLeft};
+ghost use Rattle.esa_page.specs.Writing.{IsWriting, HasWritten, HasBroken};
 ghost use Rattle.esa_params.specs.declared.form.Form.{Form};
 ghost use Rattle.esa_analyser.specs.Database.{longest};
 ghost use Rattle.esa_analyser.specs.Rows.{row_bytes, database_bytes};
@@ -24,6 +26,12 @@ fn put_rows<K: Cabinet>(db: &Db, page: &mut Page, cabinet: &mut K, name: &str) -
     ensures failed { (before : Option Files) (text : List ℕ)
         → IsUnderway before name.now text page.old (K.told cabinet.old)
         → OnErr result (IsLeft before name.now (text ++ flat_map row_bytes db.now.database.rows) (K.told cabinet.new)) }
+    ensures heard { (before : List Event) (text : List ℕ)
+        → IsWriting before name.now text page.old (K.heard cabinet.old)
+        → OnOk result (IsWriting before name.now (text ++ flat_map row_bytes db.now.database.rows) page.new (K.heard cabinet.new)) }
+    ensures heard_broken { (before : List Event) (text : List ℕ)
+        → IsWriting before name.now text page.old (K.heard cabinet.old)
+        → OnErr result (HasBroken before name.now (text ++ flat_map row_bytes db.now.database.rows) (K.heard cabinet.new)) }
     ensures cause { (before : Option Files) (text : List ℕ)
         → IsUnderway before name.now text page.old (K.told cabinet.old)
         → HasCause (K.faults cabinet.old) (K.faults cabinet.new) ⊥ result }
@@ -38,6 +46,8 @@ fn put_rows<K: Cabinet>(db: &Db, page: &mut Page, cabinet: &mut K, name: &str) -
 fn write_file<K: Cabinet>(form: Form, db: &Db, cabinet: &mut K, name: &str) -> Result<(), Failed>
     ensures whole { OnOk result (IsWhole (K.told cabinet.old) name.now (database_bytes form db.now.database) (K.told cabinet.new)) }
     ensures left { OnErr result (IsLeft (K.told cabinet.old) name.now (database_bytes form db.now.database) (K.told cabinet.new)) }
+    ensures heard { OnOk result (HasWritten (K.heard cabinet.old) name.now (database_bytes form db.now.database) (K.heard cabinet.new)) }
+    ensures heard_broken { OnErr result (HasBroken (K.heard cabinet.old) name.now (database_bytes form db.now.database) (K.heard cabinet.new)) }
     ensures cause { HasCause (K.faults cabinet.old) (K.faults cabinet.new) ⊥ result }
 {
     let mut page = Page::start(cabinet, name)?;
@@ -57,6 +67,8 @@ pub fn write_db<K: Cabinet>(form: Form, db: &Db, cabinet: &mut K, name: &str) ->
     ensures failed { (files : Files) → K.told cabinet.old ≡ Some files
         → OnErr result ((K.told cabinet.new ≡ Some files) ⊎ HoldsFront files name.now (database_bytes form db.now.database) (K.told cabinet.new)) }
     ensures silent { K.told cabinet.old ≡ None → K.told cabinet.new ≡ None }
+    ensures heard { OnOk result (HasWritten (K.heard cabinet.old) name.now (database_bytes form db.now.database) (K.heard cabinet.new)) }
+    ensures heard_broken { OnErr result (HasBroken (K.heard cabinet.old) name.now (database_bytes form db.now.database) (K.heard cabinet.new)) }
     ensures cause { HasCause (K.faults cabinet.old) (K.faults cabinet.new) ⊥ result }
 {
     write_file(form, db, cabinet, name)

@@ -13,7 +13,6 @@ use Rattle.esa_header.specs.declared.header.HeaderRefused.{HeaderRefused}
 use Rattle.esa_header.specs.Header.{header_length, header_bytes, header_in, file_length, IsFileOf}
 use Rattle.esa_header.proofs.HeaderLaws.{AreBytes, header_in-spelled, header_in-accepts, first_passed, no_test, not_below, length-header_bytes}
 use Rattle.esa_header.proofs.PieceLaws.{concat-pieces, length-pieces, HaveLength-pieces, pieces-concat, length-concat}
-use Rattle.esa_batcher.specs.declared.batch.TheConstants.{MOST_RECORDS}
 use Rattle.esa_batcher.specs.declared.refused.BatchRefused.{BatchRefused}
 use Rattle.esa_batcher.specs.declared.refused.BatchRefused.TheVariants.{TooFew, TooMany, OutOfMemory}
 use Rattle.esa_batcher.specs.Batched.{Batched, batch_front, batch_bytes, IsBatch}
@@ -31,7 +30,7 @@ behind-size bytes header size = omega (arith, length-drop (header_length header.
 pub record Pass (m : ℕ) (records : List (List ℕ)) : Type 0 where
   pub rise : fall_at 0 records ≡ None
   pub many : m ≤ length records
-  pub few : length records ≤ MOST_RECORDS
+  pub few : length records ≤ 262144
 
 not_fallen : (fall : Option ℕ) (later : Result (Unit {0}) BatchRefused) (done : Unit {0}) → unless_fallen fall later ≡ Ok done → (fall ≡ None) × (later ≡ Ok done)
 not_fallen (Some place) later done passed = cc
@@ -41,15 +40,15 @@ pass : (m : ℕ) (records : List (List ℕ)) (done : Unit {0}) → order_in m re
 pass m records done passed =
     let rise = not_fallen (fall_at 0 records) (number_in m (length records)) done passed in
     let many = first_passed (nat_lt (length records) m) _ _ done rise.1 in
-    let few = first_passed (nat_lt MOST_RECORDS (length records)) _ _ done many.1 in
+    let few = first_passed (nat_lt 262144 (length records)) _ _ done many.1 in
     record { rise = rise.0; many = not_below _ _ many.0; few = not_below _ _ few.0 }
 
 pub order_in-pass : (m : ℕ) (records : List (List ℕ)) → Pass m records → order_in m records ≡ Ok tt
 order_in-pass m records p =
     let n = length records in
     ap (λ fall. unless_fallen fall (number_in m n)) p.rise
-    ∙ ap (λ b. cond b (Err (TooFew n m)) (cond (nat_lt MOST_RECORDS n) (Err (TooMany n)) (Ok tt))) (no_test n m p.many)
-    ∙ ap (λ b. cond b (Err (TooMany n)) (Ok tt)) (no_test MOST_RECORDS n p.few)
+    ∙ ap (λ b. cond b (Err (TooFew n m)) (cond (nat_lt 262144 n) (Err (TooMany n)) (Ok tt))) (no_test n m p.many)
+    ∙ ap (λ b. cond b (Err (TooMany n)) (Ok tt)) (no_test 262144 n p.few)
 
 -- of records that rise, the number is tested
 pub order_by_number : (m count : ℕ) (records : List (List ℕ)) → length records ≡ count → fall_at 0 records ≡ None → number_in m count ≡ order_in m records
@@ -69,7 +68,7 @@ held m bytes records header envelopes done is behind passed form_is list_is =
     let p = pass m (pieces size header.count records) done (sym passed) in
     record {
       lengths = subst (λ n. HaveLength n (list_of envelopes)) (ap envelope_length (sym form_is)) (subst (λ xs. HaveLength size xs) (sym list) (HaveLength-pieces size header.count records whole));
-      number = subst (λ xs. length xs ≤ MOST_RECORDS) (sym list) p.few;
+      number = subst (λ xs. length xs ≤ 262144) (sym list) p.few;
       epoch = subst (λ form. IsEpochOf form header.epoch) (sym form_is) is.epoch;
       rising = subst (λ xs. IsSorted by_bytes xs) (sym list) (IsSorted-from_none 0 (pieces size header.count records) p.rise);
     }
@@ -109,7 +108,7 @@ batch_in-spelled m bytes are batch read = by_header (header_in Batch bytes (leng
         let passed = accepted (batch_behind bytes header) batch (order_in m (batch_behind bytes header).list) rest in
         subst (λ b. IsRead m bytes b) passed.0 (of_file m bytes header (header_in-spelled Batch bytes are header first) (pass m (batch_behind bytes header).list tt passed.1))
 
-fits : (n : ℕ) → n ≤ MOST_RECORDS → n < 2 ^ 32
+fits : (n : ℕ) → n ≤ 262144 → n < 2 ^ 32
 fits n few = omega arith
 
 pub batch_in-accepts : (m : ℕ) (batch : Batched) → IsBatch batch → m ≤ length batch.list → batch_in m (batch_bytes batch) ≡ Ok batch

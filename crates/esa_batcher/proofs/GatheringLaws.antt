@@ -11,7 +11,6 @@ use Rattle.esa_params.specs.declared.form.Form.TheVariants.{One, Two}
 use Rattle.esa_params.specs.Form.{envelope_length}
 use Rattle.esa_header.specs.Version.{IsEpochOf}
 use Rattle.esa_header.specs.Pieces.{HaveLength}
-use Rattle.esa_batcher.specs.declared.batch.TheConstants.{MOST_RECORDS}
 use Rattle.esa_batcher.specs.declared.batcher.Batcher.TheInside.{Inside}
 use Rattle.esa_batcher.specs.declared.envelopes.Envelopes.{Envelopes}
 use Rattle.esa_batcher.specs.Adding.{Gathered}
@@ -27,8 +26,8 @@ epoch_fits One epoch fits = refl
 epoch_fits Two epoch fits = fits
 
 module _ (a : Inside) (seen : Gathered) (is : gathered_in a ≡ seen) (held : IsGathered a) (b : Envelopes) (form_is : form_of b ≡ form_of a.envelopes) (list_is : list_of b ≡ ordered by_bytes (list_of a.envelopes)) where
-  number : length (list_of b) ≤ MOST_RECORDS
-  number = subst (λ n. n ≤ MOST_RECORDS) (sym (ap length list_is ∙ length_permutation _ _ (IsPermutation-ordered by_bytes (list_of a.envelopes)))) held.number
+  number : length (list_of b) ≤ 262144
+  number = subst (λ n. n ≤ 262144) (sym (ap length list_is ∙ length_permutation _ _ (IsPermutation-ordered by_bytes (list_of a.envelopes)))) held.number
 
   lengths : HaveLength (envelope_length (form_of b)) (list_of b)
   lengths =

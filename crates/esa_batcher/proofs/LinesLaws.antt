@@ -6,7 +6,6 @@ use Rattle.std.specs.Result.{result_ok}
 use Rattle.std.proofs.lemmas.Bool.Decides.{nat_tests}
 use Rattle.esa_params.specs.declared.form.Form.{Form}
 use Rattle.esa_line.specs.declared.refused.LineCause.{LineCause}
-use Rattle.esa_batcher.specs.declared.batch.TheConstants.{MOST_RECORDS}
 use Rattle.esa_batcher.specs.declared.refused.AddRefused.{AddRefused}
 use Rattle.esa_batcher.specs.declared.refused.AddRefused.TheVariants.{Line, TooMany}
 use Rattle.esa_batcher.specs.Adding.{Gathered, envelope_in, added_by, added_in}
@@ -25,12 +24,12 @@ in_order : (before : List (List ℕ)) (envelope : List ℕ) (later : Result (Lis
 in_order before envelope (Ok later) = ap Ok (sym (append_assoc before (envelope ∷ []) later))
 in_order before envelope (Err refused) = refl
 
-there_is_room : (n : ℕ) → n < MOST_RECORDS → nat_lt n MOST_RECORDS ≡ true
+there_is_room : (n : ℕ) → n < 262144 → nat_lt n 262144 ≡ true
 there_is_room n few = grind (arith, nat_tests)
 
-looked_at : (gathered : Gathered) (line : List ℕ) (number : ℕ) → length gathered.list < MOST_RECORDS → added_in gathered line number ≡ added_by gathered number (envelope_in gathered.form line)
+looked_at : (gathered : Gathered) (line : List ℕ) (number : ℕ) → length gathered.list < 262144 → added_in gathered line number ≡ added_by gathered number (envelope_in gathered.form line)
 looked_at gathered line number few =
-    ap (λ b. cond b (added_by gathered number (envelope_in gathered.form line)) (Err (TooMany (MOST_RECORDS + 1)))) (there_is_room (length gathered.list) few)
+    ap (λ b. cond b (added_by gathered number (envelope_in gathered.form line)) (Err (TooMany (262144 + 1)))) (there_is_room (length gathered.list) few)
 
 on_by : (gathered new : Gathered) (number : ℕ) (envelope : Result (List ℕ) LineCause) (later : Result (List (List ℕ)) AddRefused) → added_by gathered number envelope ≡ Ok new
     → joined_to gathered.list (envelope_first number envelope later) ≡ joined_to new.list later
@@ -55,7 +54,7 @@ one_longer gathered new number (Ok envelope) added =
 one_longer gathered new number (Err cause) added = cc
 
 module _ (form : Form) (number : ℕ) (all : Result (List (List ℕ)) AddRefused) (gathered : Gathered) (line : List ℕ) (lines rest : List (List ℕ)) (form_is : gathered.form ≡ form) (first : lines ≡ line ∷ rest)
-    (so_far : all ≡ joined_to gathered.list (lines_in form (number + 1) lines)) (few : length gathered.list < MOST_RECORDS) where
+    (so_far : all ≡ joined_to gathered.list (lines_in form (number + 1) lines)) (few : length gathered.list < 262144) where
   next : all ≡ joined_to gathered.list (envelope_first (number + 1) (envelope_in gathered.form line) (lines_in form (number + 1 + 1) rest))
   next = so_far ∙ ap (λ ls. joined_to gathered.list (lines_in form (number + 1) ls)) first ∙ ap (joined_to gathered.list) (lines_more form (number + 1) line rest)
       ∙ ap (λ f. joined_to gathered.list (envelope_first (number + 1) (envelope_in f line) (lines_in form (number + 1 + 1) rest))) (sym form_is)

@@ -12,7 +12,6 @@ use Rattle.esa_header.specs.Header.{header_length, header_in}
 use Rattle.esa_header.proofs.HeaderLaws.{no_test}
 use Rattle.esa_header.proofs.PieceLaws.{length-pieces}
 use Rattle.esa_batcher.specs.declared.refused.BatchRefused.{BatchRefused}
-use Rattle.esa_batcher.specs.declared.scan.TheConstants.{MOST_BYTES}
 use Rattle.esa_batcher.specs.declared.scan.ScanRefused.TheVariants.{TooLarge}
 use Rattle.esa_batcher.specs.InFile.{records_of}
 use Rattle.esa_batcher.specs.Reading.{number_in, batch_behind, accepted_as, behind_header}
@@ -31,13 +30,13 @@ records_are told files name bytes start size count is there =
     ap (λ t. records_of t name start size count) is ∙ ap (option_map (λ held. pieces size count (drop start held))) there
 
 -- where the records rise, their number decides
-pub scan_by_number : (m have : ℕ) (bytes : List ℕ) (header : Header) → have ≡ length bytes → have ≤ MOST_BYTES → header_in Batch bytes have ≡ Ok header → None ≡ fall_at 0 (batch_behind bytes header).list
+pub scan_by_number : (m have : ℕ) (bytes : List ℕ) (header : Header) → have ≡ length bytes → have ≤ 134217728 → header_in Batch bytes have ≡ Ok header → None ≡ fall_at 0 (batch_behind bytes header).list
     → (tests : Result (Unit {0}) BatchRefused) → tests ≡ number_in m header.count → scan_in m bytes ≡ scanned_as (accepted_as (batch_behind bytes header) tests)
 scan_by_number m have bytes header long few read rise tests is =
     let batch = batch_behind bytes header in
     let number : length batch.list ≡ header.count = length-pieces (envelope_length header.form) header.count (drop (header_length header.form) bytes) in
-    ap (λ n. cond (nat_lt MOST_BYTES n) (Err (TooLarge n)) (scanned_as (behind_header m bytes (header_in Batch bytes n)))) (sym long)
-    ∙ ap (λ b. cond b (Err (TooLarge have)) (scanned_as (behind_header m bytes (header_in Batch bytes have)))) (no_test MOST_BYTES have few)
+    ap (λ n. cond (nat_lt 134217728 n) (Err (TooLarge n)) (scanned_as (behind_header m bytes (header_in Batch bytes n)))) (sym long)
+    ∙ ap (λ b. cond b (Err (TooLarge have)) (scanned_as (behind_header m bytes (header_in Batch bytes have)))) (no_test 134217728 have few)
     ∙ ap (λ r. scanned_as (behind_header m bytes r)) read
     ∙ ap (λ t. scanned_as (accepted_as batch t)) (sym (order_by_number m header.count batch.list number (sym rise)) ∙ sym is)
 

@@ -1,10 +1,14 @@
 -- A file that is written part by part.
-use Rattle.std.proofs.Common.{◌≡◌, ℕ, List, [], ◌++◌, Option, Some, None, Result, Ok, Err, refl}
+use Rattle.std.proofs.Common.{◌≡◌, ℕ, List, [], ◌∷◌, ◌++◌, Option, Some, None, Result, Ok, Err, refl}
 use Rattle.std.specs.Prelude.{OnOk, OnErr}
 use Rattle.std.specs.FinMap as map
 use Rattle.esa_lists.specs.Files.{Files}
 use Rattle.esa_outside.specs.Told.{HoldsFront}
 use Rattle.esa_page.specs.Underway.{IsUnderway, IsWhole, IsLeft}
+use Rattle.esa_outside.specs.Heard.{Event, after}
+use Rattle.esa_outside.specs.Heard as heard
+use Rattle.esa_page.specs.Writing.{IsWriting, HasWritten, HasBroken}
+use Rattle.esa_page.proofs.HeardLaws.{IsWriting-added, HasWritten-writing, HasBroken-kept, HasBroken-longer}
 use Rattle.esa_page.proofs.UnderwayLaws.{IsUnderway-more, IsUnderway-sent, IsLeft-sent, IsWhole-underway}
 
 -- what the clauses of an append say
@@ -27,3 +31,13 @@ module _ {E : Type 0} (before : Option Files) (name text bytes : List ℕ) (old 
 pub whole_ok : {E : Type 0} (before : Option Files) (name text : List ℕ) (now : Option Files) (result : Result (Unit {0}) E) → OnOk result (IsUnderway before name text [] now) → OnOk result (IsWhole before name text now)
 whole_ok before name text now (Ok done) under = IsWhole-underway before name text [] now refl under
 whole_ok before name text now (Err failed) under = tt
+
+-- by what was heard: the last part was added, or not
+module _ {E : Type 0} (before : List Event) (name text bytes : List ℕ) (old new : List Event) where
+  pub written_ok : (result : Result (Unit {0}) E) → IsWriting before name text [] old → new ≡ after old (λ _. heard.added name bytes ∷ []) result → OnOk result (HasWritten before name (text ++ bytes) new)
+  written_ok (Ok done) writing is = HasWritten-writing before name (text ++ bytes) [] new refl (IsWriting-added before name text bytes old new is writing)
+  written_ok (Err failed) writing is = tt
+
+  pub broken_err : (result : Result (Unit {0}) E) → IsWriting before name text [] old → new ≡ after old (λ _. heard.added name bytes ∷ []) result → OnErr result (HasBroken before name (text ++ bytes) new)
+  broken_err (Ok done) writing is = tt
+  broken_err (Err failed) writing is = HasBroken-longer before name text bytes new (HasBroken-kept before name text [] old new is writing)

@@ -6,7 +6,6 @@ use Rattle.esa_bytes.specs.Hexadecimal.{hex_in}
 use Rattle.esa_line.specs.declared.refused.LineCause.{LineCause}
 use Rattle.esa_line.specs.declared.refused.LineCause.TheVariants.{MissingField, BadHex as NoHex}
 use Rattle.esa_line.specs.Front.{split_in, front_in}
-use Rattle.esa_batcher.specs.declared.batch.TheConstants.{MOST_RECORDS}
 use Rattle.esa_batcher.specs.declared.digits.NotAdded.{NotAdded}
 use Rattle.esa_batcher.specs.declared.digits.NotAdded.TheVariants.{BadHex, OutOfMemory}
 use Rattle.esa_batcher.specs.declared.refused.AddRefused.{AddRefused}
@@ -63,4 +62,4 @@ added_by gathered number (Err cause) = Err (Line (record { line = number; cause 
 -- after the line of this number, unless as many are held as a batch has
 abbrev pub added_in : Gathered → List ℕ → ℕ → Result Gathered AddRefused
 added_in gathered line number =
-    if nat_lt (length gathered.list) MOST_RECORDS then added_by gathered number (envelope_in gathered.form line) else Err (TooMany (MOST_RECORDS + 1))
+    if nat_lt (length gathered.list) 262144 then added_by gathered number (envelope_in gathered.form line) else Err (TooMany (262144 + 1))

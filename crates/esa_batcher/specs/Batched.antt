@@ -10,7 +10,6 @@ use Rattle.esa_header.specs.Version.{IsEpochOf}
 use Rattle.esa_header.specs.Pieces.{HaveLength}
 use Rattle.esa_header.specs.declared.header.FileKind.TheVariants as kind
 use Rattle.esa_header.specs.Header.{header_bytes}
-use Rattle.esa_batcher.specs.declared.batch.TheConstants.{MOST_RECORDS}
 use Rattle.esa_batcher.specs.Rising.{by_bytes}
 
 -- the form and key epoch of outer envelopes, and the list of them
@@ -47,6 +46,6 @@ batch_bytes batch = batch_front batch.form batch.epoch (length batch.list) ++ co
 -- outer envelopes of the form in rising order, no more than a batch has, under an epoch that the form can have
 pub record IsBatch (batch : Batched) : Type 0 where
   pub lengths : HaveLength (envelope_length batch.form) batch.list
-  pub number : length batch.list ≤ MOST_RECORDS
+  pub number : length batch.list ≤ 262144
   pub epoch : IsEpochOf batch.form batch.epoch
   pub rising : IsSorted by_bytes batch.list

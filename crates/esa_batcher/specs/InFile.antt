@@ -1,9 +1,10 @@
 -- The records that a file of a cabinet holds.
-use Rattle.std.specs.Prelude.{ℕ, List, drop, refl, Option, Some, None}
+use Rattle.std.specs.Prelude.{ℕ, ◌+◌, ◌*◌, List, [], ◌∷◌, drop, refl, Option, Some, None}
 use Rattle.std.specs.Option.{option_map}
 use Rattle.std.specs.Coded.{Coded, code_by, coded×, coded_list, coded_ℕ, coded_option}
 use Rattle.std.specs.FinMap as map
 use Rattle.esa_lists.specs.Files.{Files}
+use Rattle.esa_outside.specs.Heard.{Event, part_of}
 use Rattle.esa_header.specs.Pieces.{pieces}
 
 -- the files that are told, the name of one of them, where its records start, their length and their number, and the
@@ -27,3 +28,8 @@ ground_code = code_by (Option Files × (List ℕ × (ℕ × (ℕ × (ℕ × ℕ)
 abbrev pub records_of : Option Files → List ℕ → ℕ → ℕ → ℕ → Option (List (List ℕ))
 records_of None name start size count = None
 records_of (Some files) name start size count = option_map (λ bytes. pieces size count (drop start bytes)) (map.get files name)
+
+-- what is heard where these bytes are read from a record on: that part of the file, and nothing where no bytes are asked for
+abbrev pub part_heard : FileGround → ℕ → List ℕ → List Event
+part_heard file first [] = []
+part_heard file first (byte ∷ bytes) = part_of file.name (file.start + first * file.size) (byte ∷ bytes) ∷ []

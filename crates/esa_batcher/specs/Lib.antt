@@ -20,3 +20,4 @@ pub use Rattle.esa_line.specs.Front
 pub use Rattle.esa_page.specs.Underway
 pub use Rattle.esa_lists.specs.Tally
 pub use Rattle.esa_bytes.specs.Lines
+pub use Rattle.esa_page.specs.Writing

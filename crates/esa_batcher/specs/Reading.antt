@@ -6,7 +6,6 @@ use Rattle.esa_header.specs.declared.header.FileKind.TheVariants as kind
 use Rattle.esa_header.specs.declared.header.Header.{Header}
 use Rattle.esa_header.specs.declared.header.HeaderRefused.{HeaderRefused}
 use Rattle.esa_header.specs.Header.{header_length, header_in}
-use Rattle.esa_batcher.specs.declared.batch.TheConstants.{MOST_RECORDS}
 use Rattle.esa_batcher.specs.declared.refused.BatchRefused.{BatchRefused}
 use Rattle.esa_batcher.specs.declared.refused.BatchRefused.TheVariants.{Unsorted, TooFew, TooMany}
 use Rattle.esa_batcher.specs.Batched.{Batched}
@@ -15,7 +14,7 @@ use Rattle.esa_batcher.specs.Rising.{fall_at}
 
 -- not fewer records than are wanted, and not more than a batch has
 abbrev pub number_in : ℕ → ℕ → Result (Unit {0}) BatchRefused
-number_in m n = if nat_lt n m then Err (TooFew n m) else if nat_lt MOST_RECORDS n then Err (TooMany n) else Ok tt
+number_in m n = if nat_lt n m then Err (TooFew n m) else if nat_lt 262144 n then Err (TooMany n) else Ok tt
 
 abbrev pub unless_fallen : Option ℕ → Result (Unit {0}) BatchRefused → Result (Unit {0}) BatchRefused
 unless_fallen (Some place) later = Err (Unsorted place)

@@ -4,7 +4,6 @@ use Rattle.esa_outside.specs.Cause.{Rose}
 use Rattle.esa_header.specs.declared.header.Header.{Header}
 use Rattle.esa_header.specs.declared.header.HeaderRefused.{HeaderRefused}
 use Rattle.esa_batcher.specs.declared.refused.BatchRefused.{BatchRefused}
-use Rattle.esa_batcher.specs.declared.scan.TheConstants.{MOST_BYTES}
 use Rattle.esa_batcher.specs.declared.scan.Scanned.{Scanned}
 use Rattle.esa_batcher.specs.declared.scan.ScanRefused.{ScanRefused}
 use Rattle.esa_batcher.specs.declared.scan.ScanRefused.TheVariants.{Failed, TooLarge, Grammar}
@@ -18,7 +17,7 @@ scanned_as (Err refused) = Err (Grammar refused)
 
 -- as the file is read whole, once its length is within the limit
 abbrev pub scan_in : ℕ → List ℕ → Result Scanned ScanRefused
-scan_in m bytes = if nat_lt MOST_BYTES (length bytes) then Err (TooLarge (length bytes)) else scanned_as (batch_in m bytes)
+scan_in m bytes = if nat_lt 134217728 (length bytes) then Err (TooLarge (length bytes)) else scanned_as (batch_in m bytes)
 
 -- the header of a file is answered, unless the cabinet failed
 abbrev pub HeaderScanned : Result Header HeaderRefused → Result Header ScanRefused → Type 0

@@ -3,7 +3,6 @@ use Rattle.std.specs.Prelude.{ℕ, ◌+◌, nat_lt, if◌then◌else◌, List, [
 use Rattle.esa_params.specs.declared.form.Form.{Form}
 use Rattle.esa_bytes.specs.Lines.{text_lines}
 use Rattle.esa_line.specs.declared.refused.LineCause.{LineCause}
-use Rattle.esa_batcher.specs.declared.batch.TheConstants.{MOST_RECORDS}
 use Rattle.esa_batcher.specs.declared.refused.AddRefused.{AddRefused}
 use Rattle.esa_batcher.specs.declared.refused.AddRefused.TheVariants.{Line, TooMany}
 use Rattle.esa_batcher.specs.Adding.{envelope_in}
@@ -26,4 +25,4 @@ lines_in form number (line ∷ lines) = envelope_first number (envelope_in form 
 -- the envelopes of a file, unless it has more lines than a batch has records
 abbrev pub submitted : Form → List ℕ → Result (List (List ℕ)) AddRefused
 submitted form bytes =
-    if nat_lt MOST_RECORDS (length (text_lines bytes)) then Err (TooMany (length (text_lines bytes))) else lines_in form 1 (text_lines bytes)
+    if nat_lt 262144 (length (text_lines bytes)) then Err (TooMany (length (text_lines bytes))) else lines_in form 1 (text_lines bytes)

@@ -7,6 +7,7 @@ ghost use Rattle.esa_params.specs.Form.{envelope_length};
 ghost use Rattle.esa_batcher.specs.Batched.{IsBatch, batch_front, batch_bytes};
 ghost use Rattle.esa_outside.specs.Cause.{HasCause};
 ghost use Rattle.esa_page.specs.Underway.{IsWhole, IsLeft};
+ghost use Rattle.esa_page.specs.Writing.{HasWritten, HasBroken};
 
 use crate::envelopes::Envelopes;
 use crate::write::write_parts;
@@ -14,9 +15,6 @@ use esa_header::{FileKind, Header, put_header};
 use esa_outside::{Cabinet, Failed, Records};
 use esa_params::Form;
 use std::marker::Model;
-
-/// The most records of a batch.
-pub const MOST_RECORDS: u32 = 262_144;
 
 /// Outer envelopes of one form and key epoch, in rising order.
 #[derive(Drop)]
@@ -91,6 +89,8 @@ impl Batch {
 
         // A failed call leaves the file as it was, or a front of the whole file.
         ensures left { OnErr result (IsLeft (K.told cabinet.old) name.now (batch_bytes self.now) (K.told cabinet.new)) }
+        ensures heard { OnOk result (HasWritten (K.heard cabinet.old) name.now (batch_bytes self.now) (K.heard cabinet.new)) }
+        ensures heard_broken { OnErr result (HasBroken (K.heard cabinet.old) name.now (batch_bytes self.now) (K.heard cabinet.new)) }
         ensures cause { HasCause (K.faults cabinet.old) (K.faults cabinet.new) ⊥ result }
     {
         let mut front = [0; 15];
@@ -111,6 +111,10 @@ impl Records for Batch {
     ghost size = { λ batch. envelope_length batch.form };
 
     ghost faults = { λ batch. 0 };
+
+    ghost heard = { λ batch. [] };
+
+    ghost part = { λ batch first bytes. [] };
 
     fn faults(&self) -> u64 {
         0

@@ -11,12 +11,12 @@ ghost use Rattle.esa_batcher.specs.Finishing.{epoch_of, batch_of};
 ghost use Rattle.esa_batcher.specs.Rising.{by_bytes};
 
 use crate::arrange::Key;
-use crate::batch::{Batch, MOST_RECORDS};
+use crate::batch::Batch;
 use crate::digits::NotAdded;
 use crate::envelopes::Envelopes;
 use crate::refused::{AddRefused, BatchRefused};
 use esa_line::{LineCause, LineRefused, check_front, split_tab};
-use esa_params::Form;
+use esa_params::{Form, MOST_RECORDS};
 use std::alloc::{AllocError, Global};
 use std::marker::Model;
 

@@ -1,7 +1,7 @@
 //! A batch in a file, read by its places.
 
 ghost use Rattle.std.specs.Prelude.{◌≡◌, ◌*◌, ◌+◌, ◌≤◌, ℕ, List, Some, None, Option, OnOk, IsOk, All, length, take, drop, []};
-ghost use Rattle.esa_batcher.specs.InFile.{FileGround, records_of};
+ghost use Rattle.esa_batcher.specs.InFile.{FileGround, records_of, part_heard};
 ghost use Rattle.esa_outside.specs.Told.{Lacks};
 
 use esa_outside::{Cabinet, Failed, Records};
@@ -53,6 +53,10 @@ impl<'a, 'n, K: Cabinet> Records for BatchFile<'a, 'n, K> {
     ghost size = { λ batch. batch.size };
 
     ghost faults = { λ batch. K.faults batch.cabinet.now };
+
+    ghost heard = { λ batch. K.heard batch.cabinet.now };
+
+    ghost part = { part_heard };
 
     fn faults(&self) -> u64 {
         self.cabinet.faults()

@@ -20,14 +20,14 @@ mod rising;
 mod scan;
 mod write;
 
-pub use batch::{Batch, MOST_RECORDS};
+pub use batch::Batch;
 pub use batcher::Batcher;
 pub use file::{BatchFile, Standing};
 pub use laws::same_envelopes_same_file;
 pub use lines::gather;
 pub use read::read_batch;
 pub use refused::{AddRefused, BatchRefused};
-pub use scan::{MOST_BYTES, ScanRefused, Scanned, scan_batch};
+pub use scan::{ScanRefused, Scanned, scan_batch};
 
 #[cfg(test)]
 mod tests;

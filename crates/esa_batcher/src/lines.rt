@@ -2,16 +2,14 @@
 
 ghost use Rattle.std.specs.Prelude.{◌≡◌, ◌⊎◌, ◌+◌, ◌≤◌, Ok, Err, IfOk, IfErr, OnOk, MatchResult, length};
 ghost use Rattle.esa_bytes.specs.Lines.{text_lines};
-ghost use Rattle.esa_batcher.specs.declared.batch.TheConstants.{MOST_RECORDS};
 ghost use Rattle.esa_batcher.specs.declared.refused.AddRefused.TheVariants as add;
 ghost use Rattle.esa_batcher.specs.Finishing.{envelopes_of};
 ghost use Rattle.esa_batcher.specs.Submitted.{joined_to, lines_in, submitted};
 
-use crate::batch::MOST_RECORDS;
 use crate::batcher::Batcher;
 use crate::refused::AddRefused;
 use esa_line::{line_count, split_line};
-use esa_params::Form;
+use esa_params::{Form, MOST_RECORDS};
 use std::alloc::{AllocError, Global};
 
 impl From<AllocError> for AddRefused {
@@ -24,7 +22,7 @@ impl From<AllocError> for AddRefused {
 
 /// Adds the envelopes of all lines of a text.
 fn add_lines(batcher: &mut Batcher, submissions: &[u8]) -> Result<(), AddRefused>
-    requires { length batcher.old.list + length (text_lines submissions.now) ≤ MOST_RECORDS }
+    requires { length batcher.old.list + length (text_lines submissions.now) ≤ 262144 }
     ensures added { OnOk result (joined_to batcher.old.list (lines_in batcher.old.form 1 (text_lines submissions.now)) ≡ Ok batcher.new.list) }
     ensures form { batcher.new.form ≡ batcher.old.form }
     ensures refused { IfErr result (λ refused. (refused ≡ add.OutOfMemory) ⊎ (lines_in batcher.old.form 1 (text_lines submissions.now) ≡ Err refused)) }

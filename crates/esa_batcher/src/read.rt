@@ -7,12 +7,12 @@ ghost use Rattle.esa_batcher.specs.declared.refused.BatchRefused.TheVariants.{Ou
 ghost use Rattle.esa_batcher.specs.Batched.{Batched, IsBatch, batch_bytes};
 ghost use Rattle.esa_batcher.specs.Reading.{number_in, order_in, batch_in};
 
-use crate::batch::{Batch, MOST_RECORDS};
+use crate::batch::Batch;
 use crate::envelopes::Envelopes;
 use crate::refused::BatchRefused;
 use crate::rising::first_fall;
 use esa_header::{FileKind, read_header};
-use esa_params::Form;
+use esa_params::{Form, MOST_RECORDS};
 use std::alloc::Global;
 
 /// Refuses a number of records that is below `m`, or else above that of a batch.

@@ -19,12 +19,9 @@ use crate::file::BatchFile;
 use crate::order::scan_order;
 use crate::read::check_number;
 use crate::refused::BatchRefused;
-use esa_header::{FileKind, Header, HeaderRefused, read_header};
+use esa_header::{FileKind, Header, HeaderRefused, header_length, read_header};
 use esa_outside::{Cabinet, Failed};
-use esa_params::Form;
-
-/// The most bytes of a batch file.
-pub const MOST_BYTES: u64 = 134_217_728;
+use esa_params::{Form, MOST_RECORD_BYTES};
 
 /// What the header of a batch file says, once the whole file was checked.
 #[derive(Clone, Copy, PartialEq, Eq, Debug)]
@@ -35,6 +32,15 @@ pub struct Scanned {
     pub epoch: u32,
     /// The number of envelopes.
     pub count: u32,
+}
+
+impl Scanned {
+    /// The place in the file at which the records start.
+    pub fn start(&self) -> u32
+        ensures { result ≡ header_length self.now.form }
+    {
+        header_length(self.form)
+    }
 }
 
 /// Why a batch file was not accepted.
@@ -115,14 +121,10 @@ fn scan_records<K: Cabinet>(
     ensures told { K.told cabinet.new ≡ K.told cabinet.old }
     ensures cause { HasCause (K.faults cabinet.old) (K.faults cabinet.new) ⊥ result }
 {
-    let start = match form {
-        Form::One => 11,
-        Form::Two => 15,
-    };
     let mut batch = BatchFile {
         cabinet,
         name,
-        start,
+        start: header_length(form),
         size: form.envelope(),
         count,
     };
@@ -151,7 +153,7 @@ pub fn scan_batch<K: Cabinet>(
     ensures cause { ScanCounted (K.faults cabinet.old) (K.faults cabinet.new) (Lacks (K.told cabinet.old) name.now 0) result }
 {
     let have = cabinet.length(name)?;
-    if have > MOST_BYTES {
+    if have > MOST_RECORD_BYTES {
         return Err(ScanRefused::TooLarge { length: have });
     }
     let header = scan_header(cabinet, name, have, buffer)?;

@@ -1,7 +1,7 @@
 //! Submissions of form One at any size, as data to batch, and the bare work on their envelopes.
 
 use anyhow::{Result, bail, ensure};
-use esa_batcher::MOST_RECORDS;
+use esa_params::MOST_RECORDS;
 use rand_chacha::ChaCha20Rng;
 use rand_core::{Rng, SeedableRng};
 use std::fs::{self, File};

@@ -1,2 +1,4 @@
 mod BlockLaws
+mod Fieldless
 mod Lengths
+pub mod LogLaws

@@ -1,16 +1,18 @@
 -- What a recorder keeps of the accesses that it makes.
-use Rattle.std.specs.Prelude.{◌≡◌, ℕ, ◌≤◌, List, length, Option, Some, None}
+use Rattle.std.specs.Prelude.{◌≡◌, ℕ, ◌≤◌, List, length, map, Option, Some, None}
 use Rattle.esa_params.specs.Sizes.{Sizes}
 use Rattle.esa_params.specs.Slots.{IsPlanned, number_of, block_length}
 use Rattle.esa_params.specs.declared.slot.Access.{Access}
 use Rattle.esa_params.specs.declared.slot.Op.{Op}
 use Rattle.esa_params.specs.declared.slot.Slot.{Slot}
+use Rattle.esa_device.specs.Logs.{Carried, IsBacked}
 
--- the device, the accesses that were made of it, the plan that it is ready for, how many accesses may still be made,
--- and the bytes of the last read
+-- the device, the accesses that were made of it and what they carried, the plan that it is ready for, how many accesses
+-- may still be made, and the bytes of the last read
 pub record Recorded (V : Type 0) : Type 0 where
   pub device : V
   pub trace : List Access
+  pub log : List Carried
   pub plan : Option Sizes
   pub room : ℕ
   pub last : List ℕ
@@ -41,8 +43,10 @@ abbrev pub IsReady : Option Sizes → Option Sizes → ℕ → Type 0
 IsReady None laid room = Unit {0}
 IsReady (Some plan) laid room = (laid ≡ Some plan) × ((slot : Slot) → IsPlanned plan slot → block_length plan slot ≤ room)
 
--- the device was called for the accesses of the trace and for nothing else
-pub record IsKept (plan laid : Option Sizes) (calls : ℕ) (trace : List Access) (last room : ℕ) : Type 0 where
+-- the device was called for the accesses of the trace and for nothing else, and the log is of these accesses
+pub record IsKept (plan laid : Option Sizes) (calls : ℕ) (told : Option (List (List ℕ))) (trace : List Access) (log : List Carried) (last room : ℕ) : Type 0 where
   pub ready : IsReady plan laid room
   pub counted : calls ≡ length trace
+  pub logged : map (λ (entry : Carried). entry.access) log ≡ trace
+  pub backed : IsBacked plan told log
   pub fits : last ≤ room

@@ -1,29 +1,35 @@
 //! A recorder: every access to a device, in order.
 
-ghost use Rattle.std.specs.Prelude.{◌≡◌, ◌+◌, ◌<◌, ◌≤◌, ◌++◌, [], ◌∷◌, ℕ, List, Option, OnOk, OnErr, IsSome, length, take, slice_get, slice_set};
+ghost use Rattle.std.specs.Prelude.{◌≡◌, ◌+◌, ◌<◌, ◌≤◌, ◌++◌, [], ◌∷◌, ℕ, List, Option, OnOk, OnErr, IsSome, length, map, take, slice_get, slice_set};
 ghost use Rattle.esa_params.specs.Slots.{greatest_trace};
 ghost use Rattle.esa_bytes.specs.Field.{u64_in};
 ghost use Rattle.esa_outside.specs.Cause.{HasCause};
 ghost use Rattle.esa_device.specs.Blocks.{HasBlock, zero_blocks, ChangesBlock};
 ghost use Rattle.esa_device.specs.Laying.{Counted};
+ghost use Rattle.esa_device.specs.Logs.{Carried, IsBacked, carried_by};
 ghost use Rattle.esa_device.specs.Recording.{Names, number_in};
 
-use crate::{Device, LayRefused};
+use crate::{Device, LayRefused, Log};
 use esa_outside::Failed;
 use esa_params::{Access, Op, Plan, Slot};
 use std::alloc::Global;
 use std::marker::Model;
 
-/// A device, and all accesses that were made of it, in order. It is seen as the device, the list of accesses, the plan
-/// that it is ready for, how many accesses it has room for, and the bytes of the last read that did not fail.
+/// A device, and all accesses that were made of it, in order. It is seen as the device, the list of accesses, the log of
+/// what they carried, the plan that it is ready for, how many accesses it has room for, and the bytes of the last read
+/// that did not fail.
 ///
 /// An access is added to the list before the device is called, and none is ever taken out. The device is called for
 /// the accesses of the list and for nothing else: it counts as many calls as the list is long, after each call of the
 /// recorder.
+///
+/// The log has an entry for each access of the list, in order: the bytes that it gave or took, or that it failed. Where
+/// the device tells its blocks, each slot holds what was written there last, and each read gave just that.
 #[derive(Drop)]
 pub struct Recorder<V: Device> {
     device: V,
     trace: Vec<Access>,
+    log: Log,
     plan: Option<Plan>,
     block: Vec<u8>,
     kept: usize,
@@ -35,20 +41,21 @@ impl<V: Device> Model for Recorder<V> {
 
     ghost Value = { Recorded V };
 
-    ghost view = { λ a. record { device = a.device; trace = a.trace.items; plan = a.plan; room = vec_capacity a.trace - vec_len a.trace; last = take a.kept a.block.items } };
+    ghost view = { λ a. record { device = a.device; trace = a.trace.items; log = a.log.entries; plan = a.plan; room = vec_capacity a.trace - vec_len a.trace; last = take a.kept a.block.items } };
 
-    ghost invariant = { λ a. IsKept a.plan (V.laid a.device) (V.calls a.device) a.trace.items a.kept (length a.block.items) };
+    ghost invariant = { λ a. IsKept a.plan (V.laid a.device) (V.calls a.device) (V.told a.device) a.trace.items a.log.entries a.kept (length a.block.items) };
 }
 
 impl<V: Device> Recorder<V> {
     /// A recorder of a device that was not called yet. It is ready for no plan, and has room for no access.
     pub fn make(alloc: Global, device: V) -> Recorder<V>
         requires { V.calls device ≡ 0 }
-        ensures { result ≡ record { device = device; trace = []; plan = None; room = 0; last = [] } }
+        ensures { result ≡ record { device = device; trace = []; log = []; plan = None; room = 0; last = [] } }
     {
         Recorder {
             device,
             trace: Vec::new(alloc),
+            log: Log::new(),
             plan: None,
             block: Vec::new(alloc),
             kept: 0,
@@ -69,6 +76,7 @@ impl<V: Device> Recorder<V> {
         // After a refusal it is ready for no plan.
         ensures refused { OnErr result (self.new.plan ≡ None) }
         ensures trace { self.new.trace ≡ [] }
+        ensures log { self.new.log ≡ [] }
         ensures counted { V.calls self.new.device ≡ 0 }
         ensures last_call { V.last_call self.new.device ≡ V.last_call self.old.device }
         ensures last { self.new.last ≡ [] }
@@ -77,6 +85,7 @@ impl<V: Device> Recorder<V> {
         let alloc = *self.trace.allocator();
         self.plan = None;
         self.kept = 0;
+        self.log = Log::new();
         self.trace = Vec::with_capacity(alloc, plan.greatest_trace() as usize)?;
         self.block = vec![in alloc; 0; plan.greatest_block() as usize]?;
         self.device.lay(plan)?;
@@ -89,6 +98,7 @@ impl<V: Device> Recorder<V> {
         requires named { Names Op.Read self.old.plan access (length out.old) }
         requires room { 0 < self.old.room }
         ensures trace { self.new.trace ≡ self.old.trace ++ access ∷ [] }
+        ensures log { self.new.log ≡ self.old.log ++ carried_by access result out.new ∷ [] }
         ensures room { self.old.room ≡ self.new.room + 1 }
         ensures plan { self.new.plan ≡ self.old.plan }
         ensures counted { V.calls self.new.device ≡ length self.new.trace }
@@ -104,7 +114,9 @@ impl<V: Device> Recorder<V> {
     {
         let number = self.number(access);
         self.trace.push_reserved(access);
-        self.device.read(number, out)?;
+        let done = self.device.read(number, out);
+        self.log = self.log.after(access, done, out);
+        done?;
         self.kept = keep(&mut self.block, out);
         Ok(())
     }
@@ -116,6 +128,7 @@ impl<V: Device> Recorder<V> {
         requires nonce { u64_in bytes.now 0 ≡ access.nonce }
         requires room { 0 < self.old.room }
         ensures trace { self.new.trace ≡ self.old.trace ++ access ∷ [] }
+        ensures log { self.new.log ≡ self.old.log ++ carried_by access result bytes.now ∷ [] }
         ensures room { self.old.room ≡ self.new.room + 1 }
         ensures plan { self.new.plan ≡ self.old.plan }
         ensures counted { V.calls self.new.device ≡ length self.new.trace }
@@ -132,7 +145,9 @@ impl<V: Device> Recorder<V> {
     {
         let number = self.number(access);
         self.trace.push_reserved(access);
-        self.device.write(number, bytes)
+        let done = self.device.write(number, bytes);
+        self.log = self.log.after(access, done, bytes);
+        done
     }
 
     /// The plan that it is ready for.
@@ -155,6 +170,15 @@ impl<V: Device> Recorder<V> {
         ensures counted { V.calls self.now.device ≡ length self.now.trace }
     {
         &self.trace
+    }
+
+    /// What it keeps of its log: an entry for each access, in order. Over a device that tells, each slot holds what its
+    /// latest write took, and the log is faithful. It does nothing when it runs.
+    pub fn keeps_its_log(&self)
+        ensures accesses { map (λ (entry : Carried). entry.access) self.now.log ≡ self.now.trace }
+        ensures backed { IsBacked self.now.plan (V.told self.now.device) self.now.log }
+    {
+        let _ = &self.log;
     }
 
     /// The bytes of the last read that did not fail.
@@ -186,11 +210,21 @@ impl<V: Device> Recorder<V> {
 }
 
 // Keeps bytes at the front of a room for them, and answers how many they are.
-fn keep(room: &mut [u8], bytes: &[u8]) -> usize
-    requires { length bytes.now ≤ length room.old }
+fn keep(room: &mut Vec<u8>, bytes: &[u8]) -> usize
+    requires { length bytes.now ≤ length room.old.items }
     ensures number { result ≡ length bytes.now }
-    ensures front { take result room.new ≡ bytes.now }
+    ensures front { take result room.new.items ≡ bytes.now }
+    ensures fits { result ≤ length room.new.items }
+    ensures length { length room.new.items ≡ length room.old.items }
+{
+    put_front(room, bytes);
+    bytes.len()
+}
+
+// Puts bytes at the front.
+fn put_front(room: &mut [u8], bytes: &[u8])
+    requires { length bytes.now ≤ length room.old }
+    ensures { take (length bytes.now) room.new ≡ bytes.now }
 {
     room[..bytes.len()].copy_from_slice(bytes);
-    bytes.len()
 }

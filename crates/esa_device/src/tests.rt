@@ -142,7 +142,7 @@ fn flipped_bits(rt: HostRuntime) -> Result<(), Fail> {
         let (access, byte, mask) = *row;
         flips.push(Flip { access, byte, mask })?;
     }
-    let mut recorder = Recorder::make(alloc, MemDevice::make(Vec::new(alloc), flips));
+    let mut recorder = crossed(Recorder::make(alloc, MemDevice::make(Vec::new(alloc), flips)));
     recorder.ready(&base()?)?;
     let block = written(&rt, &mut recorder, 0, 7)?;
     for access in 2..=6u64 {
@@ -176,18 +176,25 @@ fn fixed_slot(rt: HostRuntime) -> Result<(), Fail> {
 #[test]
 fn fixed_slot_of_another_length(rt: HostRuntime) -> Result<(), Fail> {
     let bytes = block_of(&rt, 0, 9)?;
-    let mut recorder = sent(Recorder::make(rt.alloc(), FixedDevice::make(2, bytes)));
+    let mut recorder = crossed(Recorder::make(rt.alloc(), FixedDevice::make(2, bytes)));
     recorder.ready(&base()?)?;
     let own = written(&rt, &mut recorder, 2, 5)?;
     assert_eq!(rt; given(&rt, &mut recorder, 2)?.as_slice(), own.as_slice());
     Ok(())
 }
 
-// The value: a recorder goes to another thread where its device does.
+// The value, which may go to another thread.
 fn sent<T: Send>(value: T) -> T
     ensures { result ≡ value }
 {
     value
+}
+
+// A recorder goes to another thread where its device does.
+fn crossed<V: Device + Send>(recorder: Recorder<V>) -> Recorder<V>
+    ensures { result ≡ recorder }
+{
+    sent(recorder)
 }
 
 // A file in the folder that the tests run in.
@@ -238,7 +245,7 @@ fn a_folder_in_its_place(rt: HostRuntime) -> Result<(), Fail> {
     fs::create_dir(&rt, name)?;
     let alloc = rt.alloc();
     let device = FileDevice::make(rt.clone()?, String::from_str(alloc, name)?);
-    let mut recorder = sent(Recorder::make(alloc, device));
+    let mut recorder = crossed(Recorder::make(alloc, device));
     assert_eq!(rt; recorder.ready(&base()?), Err(LayRefused::Failed));
     assert_eq!(rt; recorder.faults(), 1);
     fs::remove_dir(&rt, name)?;

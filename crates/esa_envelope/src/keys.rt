@@ -2,10 +2,11 @@
 
 ghost use Rattle.std.specs.Prelude.{◌≡◌, ◌++◌};
 ghost use Rattle.esa_hmac.specs.Hmac.{hmac};
-ghost use Rattle.esa_envelope.specs.Keys.{keys_from, master_of_epoch};
+ghost use Rattle.esa_envelope.specs.Keys.{keys_from, master_of_epoch, record_keys};
 
 use crate::label::Label;
 use esa_hmac::Mac;
+use esa_params::Form;
 
 /// The keys of one use: that of the cipher and that of the tag, each of 32 bytes.
 #[derive(Clone, Copy)]
@@ -33,6 +34,17 @@ pub fn epoch_master(master: &[u8; 32], epoch: u32) -> [u8; 32]
     ensures { result ≡ master_of_epoch master.now epoch }
 {
     derived(master, b"epoch:", &epoch.to_be_bytes())
+}
+
+/// The keys of the records of a form and a key epoch, for a label. Form One has no epochs: its keys are those of the
+/// master, whatever the epoch.
+pub fn record_keys(form: Form, epoch: u32, master: &[u8; 32], label: Label) -> Keys
+    ensures { result ≡ record_keys form epoch master.now label }
+{
+    match form {
+        Form::One => keys_of(master, label),
+        Form::Two => keys_of(&epoch_master(master, epoch), label),
+    }
 }
 
 /// The HMAC of a message that comes in two parts.

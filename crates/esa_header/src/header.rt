@@ -55,7 +55,7 @@ impl Header {
     pub fn length(&self) -> usize
         ensures { result ≡ header_length self.now.form }
     {
-        length_of(self.form) as usize
+        header_length(self.form) as usize
     }
 }
 
@@ -75,7 +75,7 @@ pub enum HeaderRefused {
 }
 
 /// The length of a header, in bytes: 11 in version 1 and 15 in version 2.
-fn length_of(form: Form) -> u32
+pub fn header_length(form: Form) -> u32
     ensures { result ≡ header_length form }
 {
     match form {
@@ -107,7 +107,7 @@ fn tested_header(kind: FileKind, front: &[u8], have: u64) -> Result<Header, Head
     ensures { result ≡ header_in kind front.now have }
 {
     let form = read_form(kind, front, have)?;
-    let start = u64::from(length_of(form));
+    let start = u64::from(header_length(form));
     if have < start {
         return Err(HeaderRefused::Cut(Cut { want: start, have }));
     }

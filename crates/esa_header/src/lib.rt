@@ -8,5 +8,5 @@
 mod header;
 mod version;
 
-pub use header::{FileKind, Header, HeaderRefused, put_header, read_header};
+pub use header::{FileKind, Header, HeaderRefused, header_length, put_header, read_header};
 pub use version::{form_of, version_of};

@@ -27,7 +27,7 @@ use Rattle.esa_spec.specs.Turns.{turns_of, next, next_phase, claims, held, order
 use Rattle.esa_spec.specs.Verdicts.{failing, is_finished}
 
 -- the turns of a worker in a completed list
-turns_of-append : (v : ℕ) (xs ys : List ℕ) → turns_of v (xs ++ ys) ≡ turns_of v xs + turns_of v ys
+pub turns_of-append : (v : ℕ) (xs ys : List ℕ) → turns_of v (xs ++ ys) ≡ turns_of v xs + turns_of v ys
 turns_of-append v xs ys = sum_by-append (λ u. bit (u == v)) xs ys
 
 either_way : (u v : ℕ) → (u == v) ≡ (v == u)
@@ -44,17 +44,17 @@ turns_of-again v w (suc n) v_in = omega (arith, turns_of-append v (below w) (aga
 abbrev pub AllBelow : ℕ → List ℕ → Type 0
 AllBelow w xs = All (λ v. v < w) xs
 
-All-nil : (w : ℕ) → AllBelow w []
+pub All-nil : (w : ℕ) → AllBelow w []
 All-nil w = λ k d k_in. absurd (omega arith)
 
-All-one : (w v : ℕ) → v < w → AllBelow w (v ∷ [])
+pub All-one : (w v : ℕ) → v < w → AllBelow w (v ∷ [])
 All-one w v v_in = λ k d k_in. first k d k_in
   where
     first : (k d : ℕ) → k < length (v ∷ []) → slice_index_or (v ∷ []) k d < w
     first zero d k_in = v_in
     first (suc k) d k_in = absurd (omega arith)
 
-All-below : (w n : ℕ) → n ≤ w → AllBelow w (below n)
+pub All-below : (w n : ℕ) → n ≤ w → AllBelow w (below n)
 All-below w zero n_in = All-nil w
 All-below w (suc n) n_in =
     subst (AllBelow w) (sym (below-suc n)) (All-append (λ v. v < w) (below n) (n ∷ []) (All-below w n (omega arith)) (All-one w n n_in))
@@ -64,10 +64,10 @@ All-again w zero = All-nil w
 All-again w (suc n) = All-append (λ v. v < w) (below w) (again n (below w)) (All-below w w (omega arith)) (All-again w n)
 
 -- a number that isn't a worker's has no turn
-All-tail : (w x : ℕ) (xs : List ℕ) → AllBelow w (x ∷ xs) → AllBelow w xs
+pub All-tail : (w x : ℕ) (xs : List ℕ) → AllBelow w (x ∷ xs) → AllBelow w xs
 All-tail w x xs all = λ k d k_in. all (suc k) d (omega arith)
 
-no_turns : (w v : ℕ) (h : List ℕ) → AllBelow w h → w ≤ v → turns_of v h ≡ 0
+pub no_turns : (w v : ℕ) (h : List ℕ) → AllBelow w h → w ≤ v → turns_of v h ≡ 0
 no_turns w v [] all past = refl
 no_turns w v (x ∷ xs) all past =
     let first : x < w = all 0 0 (omega arith) in

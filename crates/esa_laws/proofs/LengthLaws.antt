@@ -86,7 +86,7 @@ reads_of-le b h j = (by_pushes (ReadOnce b j) (record { once = omega arith; past
 -- the buckets that are read are those of the events
 total-reads : (b : ℕ) (h : List ℕ) → reads b h ≡ sum_by (reads_of b h) (below b)
 total-reads b h = by_buckets is_read is_read_of b
-    (λ g f. event-by (λ e. sum_by (λ j. bit (is_read_of j e)) (below b) ≡ bit (is_read e)) b g f
+    (λ g f f_in. event-by (λ e. sum_by (λ j. bit (is_read_of j e)) (below b) ≡ bit (is_read e)) b g f
     (λ g_in phase. zeros b) (λ g_in phase. hit-once g b g_in) (λ g_in phase. zeros b) (λ g_in late. zeros b) (λ past. zeros b) (λ past. zeros b))
     h
 

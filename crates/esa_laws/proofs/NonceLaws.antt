@@ -29,7 +29,7 @@ use Rattle.esa_spec.specs.declared.event.Event.TheVariants.{Write}
 abbrev pub written : ℕ → List Access → ℕ
 written n xs = occurrences n (written_nonces xs)
 
-written-append : (n : ℕ) (xs ys : List Access) → written n (xs ++ ys) ≡ written n xs + written n ys
+pub written-append : (n : ℕ) (xs ys : List Access) → written n (xs ++ ys) ≡ written n xs + written n ys
 written-append n xs ys = ap (occurrences n) (filter_map-append written_nonce xs ys) ∙ occurs-append n (written_nonces xs) (written_nonces ys)
 
 -- no nonce is written twice, and each that is written is from lo up to hi
@@ -71,7 +71,7 @@ fresh-append xs ys lo mid hi low high f g = record {
       (cases_eq (written n xs) 0);
 }
 
-written-one : (n : ℕ) (x : Access) (o : Option ℕ) → written_nonce x ≡ o → written n (x ∷ []) ≡ occurrences n (option_to_list o)
+pub written-one : (n : ℕ) (x : Access) (o : Option ℕ) → written_nonce x ≡ o → written n (x ∷ []) ≡ occurrences n (option_to_list o)
 written-one n x o e = ap (λ y. occurrences n (cons_option y [])) e ∙ ap (occurrences n) (one_of o)
 
 fresh-one : (x : Access) (m : ℕ) → written_nonce x ≡ Some m → Fresh (x ∷ []) m (m + 1)

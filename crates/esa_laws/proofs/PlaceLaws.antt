@@ -31,7 +31,7 @@ use Rattle.esa_spec.specs.Verdicts.{targets, reached, left, is_left, drained, se
 use Rattle.esa_spec.specs.declared.event.Verdict.TheVariants.{Good}
 
 -- the numbers of a list by its indexes
-by-index : {X : Type 0} (xs : List X) (d : X) → xs ≡ map (λ y. get_or xs y d) (below (length xs))
+pub by-index : {X : Type 0} (xs : List X) (d : X) → xs ≡ map (λ y. get_or xs y d) (below (length xs))
 by-index xs d = fill_by_all (λ y. get_or xs y d) xs (length xs) d refl (λ k k_in. refl)
 
 -- how often x stands in an optional place
@@ -48,14 +48,40 @@ occurs-filter_map x h [] = refl
 occurs-filter_map x h (y ∷ ys) =
     occurs-option x (h y) (filter_map h ys) ∙ ap (λ z. hits x (h y) + z) (occurs-filter_map x h ys) ∙ sym (sum_by-cons (λ y. hits x (h y)) y ys)
 
--- arranged by an order, each place occurs as often as before
+-- arranged by an order, the entries have the same sum as before
+arranged-sum : (weight : Option ℕ → ℕ) (xs : List (Option ℕ)) (ys : List ℕ) → IsPermutation (below (length xs)) ys
+    → sum_by (λ y. weight (entry xs y)) ys ≡ sum_by weight xs
+arranged-sum weight xs ys perm =
+    sum_by-IsPermutation (λ y. weight (entry xs y)) (below (length xs)) ys perm
+    ∙ sum-below-same (λ y. weight (entry xs y)) (λ y. weight (get_or xs y None)) (length xs) (λ y y_in. ap weight (unwrap_or-slice_get xs y None))
+    ∙ sym (sum-of-map weight (λ y. get_or xs y None) (below (length xs)))
+    ∙ sym (ap (sum_by weight) (by-index xs None))
+
 arranged-counts : (x : ℕ) (xs : List (Option ℕ)) (ys : List ℕ) → IsPermutation (below (length xs)) ys → occurrences x (filter_map (entry xs) ys) ≡ sum_by (hits x) xs
-arranged-counts x xs ys perm =
-    occurs-filter_map x (entry xs) ys
-    ∙ sum_by-IsPermutation (λ y. hits x (entry xs y)) (below (length xs)) ys perm
-    ∙ sum-below-same (λ y. hits x (entry xs y)) (λ y. hits x (get_or xs y None)) (length xs) (λ y y_in. ap (hits x) (unwrap_or-slice_get xs y None))
-    ∙ sym (sum-of-map (hits x) (λ y. get_or xs y None) (below (length xs)))
-    ∙ sym (ap (sum_by (hits x)) (by-index xs None))
+arranged-counts x xs ys perm = occurs-filter_map x (entry xs) ys ∙ arranged-sum (hits x) xs ys perm
+
+-- how many values there are
+abbrev pub there : {X : Type 0} → Option X → ℕ
+there None = 0
+there (Some z) = 1
+
+length-option : {X : Type 0} (o : Option X) (xs : List X) → length (cons_option o xs) ≡ there o + length xs
+length-option None xs = omega arith
+length-option (Some z) xs = omega arith
+
+pub length-filter_map : {X Y : Type 0} (h : X → Option Y) (ys : List X) → length (filter_map h ys) ≡ sum_by (λ y. there (h y)) ys
+length-filter_map h [] = refl
+length-filter_map h (y ∷ ys) =
+    length-option (h y) (filter_map h ys) ∙ ap (λ z. there (h y) + z) (length-filter_map h ys) ∙ sym (sum_by-cons (λ y. there (h y)) y ys)
+
+one-each : (xs : List ℕ) → sum_by (λ (z : ℕ). 1) xs ≡ length xs
+one-each [] = refl
+one-each (x ∷ xs) = omega (arith, sum_by-cons (λ (z : ℕ). 1) x xs, one-each xs)
+
+padded-there : (n : ℕ) (xs : List ℕ) → sum_by there (padded n xs) ≡ length xs
+padded-there n xs =
+    sum_by-append there (map Some xs) (replicate (n - length xs) None)
+    ∙ omega (arith, sum-of-map (there {X = ℕ}) Some xs, one-each xs, sum_by-replicate (there {X = ℕ}) (n - length xs) None)
 
 -- pads don't count
 padded-counts : (x n : ℕ) (xs : List ℕ) → sum_by (hits x) (padded n xs) ≡ occurrences x xs
@@ -114,17 +140,17 @@ position-here : (test : ℕ → Bool) (x : ℕ) (xs : List ℕ) (c : Bool) → t
 position-here test x xs true e later = let here = ap (λ y. cond (not y) (1 + position_or_len test xs) 0) e in omega (arith, here)
 position-here test x xs false e later = let here = ap (λ y. cond (not y) (1 + position_or_len test xs) 0) e in omega (arith, here, later refl)
 
-position-in : (test : ℕ → Bool) (xs : List ℕ) → 1 ≤ count_by test xs → position_or_len test xs < length xs
+pub position-in : (test : ℕ → Bool) (xs : List ℕ) → 1 ≤ count_by test xs → position_or_len test xs < length xs
 position-in test [] some = absurd (omega arith)
 position-in test (x ∷ xs) some = position-here test x xs (test x) refl
     (λ e. position-in test xs (omega (arith, sum_by-cons (λ y. bit (test y)) x xs, ap bit e)))
 
 -- how many elements have a target
-length-chosen-step : (i t y : ℕ) (ts ys : List ℕ) (c : Bool) → length (cond c (y ∷ chosen i ts ys) (chosen i ts ys)) ≡ bit c + length (chosen i ts ys)
+length-chosen-step : {X : Type 0} (i t : ℕ) (y : X) (ts : List ℕ) (ys : List X) (c : Bool) → length (cond c (y ∷ chosen i ts ys) (chosen i ts ys)) ≡ bit c + length (chosen i ts ys)
 length-chosen-step i t y ts ys true = omega arith
 length-chosen-step i t y ts ys false = omega arith
 
-pub length-chosen : (i : ℕ) (ts ys : List ℕ) → length ts ≡ length ys → length (chosen i ts ys) ≡ count_by (λ t. t == i) ts
+pub length-chosen : {X : Type 0} (i : ℕ) (ts : List ℕ) (ys : List X) → length ts ≡ length ys → length (chosen i ts ys) ≡ count_by (λ t. t == i) ts
 length-chosen i [] ys long = refl
 length-chosen i (t ∷ ts) [] long = absurd (omega arith)
 length-chosen i (t ∷ ts) (y ∷ ys) long =
@@ -213,7 +239,7 @@ module _ (p : Sizes) (d : Draw) (drawn : IsDrawn p d) (o : List ℕ) (each : len
         ∙ ap (λ y. y + occurrences x (tail p d o i)) (by-exchange (λ k. occurrences x (chunk p d o k i)))
         ∙ line-counts
 
-  length-imports : (i : ℕ) → backlog p d o p.b i ≤ p.k → length (imports p d o i) ≡ p.b * p.c + p.k
+  pub length-imports : (i : ℕ) → backlog p d o p.b i ≤ p.k → length (imports p d o i) ≡ p.b * p.c + p.k
   length-imports i fits =
       length-append (flat_map (padded_chunk p d o i) (below p.b)) (padded p.k (tail p d o i))
       ∙ omega (
@@ -274,6 +300,39 @@ module _ (p : Sizes) (d : Draw) (h : List ℕ) (drawn : IsDrawn p d) (all : writ
       (subst (λ n. IsPermutation (below n) (d.order i)) (sym (length-imports p d drawn o each perm single i (fits-each i i_in))) (drawn.orders_permute i i_in))
       ∙ import-counts p d drawn o each perm single i x
       ∙ sym (sum-of-flat_map (λ z. bit (z == x)) (chosen_places p d i) (below p.b)))
+
+  -- what is arranged is the chunks and the tail, by length
+  pub length-parts : (i : ℕ) → i < p.b
+      → sum_by (λ j. length (chunk p d (order p.b h) (exchange_of (order p.b h) j) i)) (below p.b) + backlog p d (order p.b h) p.b i
+      ≡ length (arranged p d (order p.b h) i)
+  length-parts i i_in =
+      let o = order p.b h in
+      let each = all-exchanged p.b h all in
+      let perm = order-permutes p.b h all in
+      let single = λ (j : ℕ) (j_in : j < p.b). once p.b h j all j_in in
+      let chunks = sum_by (λ j. length (chunk p d o (exchange_of o j) i)) (below p.b) in
+      sym (
+      length-filter_map (entry (imports p d o i)) (d.order i)
+      ∙ arranged-sum there (imports p d o i) (d.order i)
+      (subst (λ n. IsPermutation (below n) (d.order i)) (sym (length-imports p d drawn o each perm single i (fits-each i i_in))) (drawn.orders_permute i i_in))
+      ∙ sum_by-append there (flat_map (padded_chunk p d o i) (below p.b)) (padded p.k (tail p d o i))
+      ∙ ap (λ y. y + sum_by there (padded p.k (tail p d o i))) (sum-of-flat_map there (padded_chunk p d o i) (below p.b))
+      ∙ ap (λ y. y + sum_by there (padded p.k (tail p d o i)))
+      (sum-below-same (λ j. sum_by there (padded_chunk p d o i j)) (λ j. length (chunk p d o (exchange_of o j) i)) p.b
+      (λ j j_in. padded-there p.c (chunk p d o (exchange_of o j) i)))
+      ∙ ap (λ y. chunks + y) (padded-there p.k (tail p d o i))
+      ∙ ap (λ y. chunks + y) (length-queued p d o p.b i)
+      )
+
+  pub length-all_parts : (m : ℕ) → m ≤ p.b
+      → length (flat_map (arranged p d (order p.b h)) (below m))
+      ≡ sum_by (λ i. sum_by (λ j. length (chunk p d (order p.b h) (exchange_of (order p.b h) j) i)) (below p.b) + backlog p d (order p.b h) p.b i) (below m)
+  length-all_parts m m_in =
+      let o = order p.b h in
+      length-flat_map (arranged p d o) (below m)
+      ∙ sum-below-same (λ i. length (arranged p d o i))
+      (λ i. sum_by (λ j. length (chunk p d o (exchange_of o j) i)) (below p.b) + backlog p d o p.b i) m
+      (λ i i_in. sym (length-parts i (omega arith)))
 
   pub length-arranged : (i : ℕ) → i < p.b → length (arranged p d (order p.b h) i) ≡ count_by (λ t. t == i) (targets p d)
   length-arranged i i_in =

@@ -1,11 +1,11 @@
 -- The buckets cover all places, and so do the targets.
-use Rattle.std.proofs.Common.{◌≡◌, ℕ, zero, suc, ◌+◌, ◌≤◌, ◌<◌, true, List, [], ◌∷◌, ◌++◌, length, map, refl, sym, ◌∙◌, ap, arith, add-one, length-take}
+use Rattle.std.proofs.Common.{◌≡◌, ℕ, zero, suc, ◌+◌, ◌*◌, ◌≤◌, ◌<◌, true, List, [], ◌∷◌, ◌++◌, length, map, refl, sym, ◌∙◌, ap, arith, add-one, length-take}
 use Rattle.std.specs.List.{count_by, sum_by, All}
 use Rattle.std.specs.Prelude.{nat_lt}
 use Rattle.std.proofs.lemmas.Bool.{lt-ltb}
 use Rattle.std.proofs.lemmas.List.Sums.{sum_by-cons}
 use Rattle.esa_laws.proofs.Tests.{bit}
-use Rattle.esa_params.specs.Sizes.{Sizes, first, size, below}
+use Rattle.esa_params.specs.Sizes.{Sizes, share, first, size, below}
 use Rattle.esa_laws.proofs.LineLaws.{length-batches}
 use Rattle.esa_laws.proofs.QueueLaws.{batch, leaving-more}
 use Rattle.esa_laws.proofs.Ranges.{sum-below-suc, sum-below-same}
@@ -23,6 +23,13 @@ first-more p j = omega arith
 
 pub first-all : (p : Sizes) → 1 ≤ p.b → first p p.b ≡ p.n
 first-all p some = omega arith
+
+-- no bucket has more places than the first one
+pub size-first : (p : Sizes) (j : ℕ) → size p j ≤ size p 0
+size-first p j =
+    let next : (j + 1) * share p ≡ j * share p + share p = omega arith in
+    let one : (0 + 1) * share p ≡ share p = omega arith in
+    omega arith
 
 sizes-sum : (p : Sizes) (m : ℕ) → sum_by (size p) (below m) ≡ first p m
 sizes-sum p zero = sym (first-zero p)

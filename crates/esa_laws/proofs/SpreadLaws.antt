@@ -31,14 +31,14 @@ through-other zero Idle es h = refl
 through-other (suc k) Idle es h = refl
 
 -- the buckets that events exchange
-abbrev exchanges : List Event → List ℕ
+abbrev pub exchanges : List Event → List ℕ
 exchanges es = filter_map exchanged es
 
 one-more : (o : Option ℕ) (e : Event) (es : List Event) → exchanged e ≡ o → exchanges (e ∷ es) ≡ cons_option o (exchanges es)
 one-more o e es h = ap (λ y. cons_option y (exchanges es)) h
 
 -- the exchange that comes last is reached only at the end
-through-all : (es : List Event) (j : ℕ) → through (length (exchanges es)) (es ++ Exchange j ∷ []) ≡ es ++ Exchange j ∷ []
+pub through-all : (es : List Event) (j : ℕ) → through (length (exchanges es)) (es ++ Exchange j ∷ []) ≡ es ++ Exchange j ∷ []
 through-all [] j = refl
 through-all (Claim i ∷ es) j = through-other (length (exchanges es)) (Claim i) (es ++ Exchange j ∷ []) refl ∙ ap (λ y. Claim i ∷ y) (through-all es j)
 through-all (Read i ∷ es) j = through-other (length (exchanges es)) (Read i) (es ++ Exchange j ∷ []) refl ∙ ap (λ y. Read i ∷ y) (through-all es j)
@@ -114,7 +114,7 @@ failing-stays p d k o (j ∷ more) e =
     ∙ failing-stays p d k (o ++ j ∷ []) more
     (failing-push p d o j ∙ ap (λ y. option_or y (cond (overflows p d (o ++ j ∷ []) (length o)) (Some (length o)) None)) e)
 
-exchanged-is : (e : Event) (j : ℕ) → exchanged e ≡ Some j → e ≡ Exchange j
+pub exchanged-is : (e : Event) (j : ℕ) → exchanged e ≡ Some j → e ≡ Exchange j
 exchanged-is (Claim i) j h = absurd (cc)
 exchanged-is (Read i) j h = absurd (cc)
 exchanged-is (Exchange i) j h = let same : i ≡ j = cc in ap Exchange same

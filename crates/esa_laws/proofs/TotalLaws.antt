@@ -17,19 +17,20 @@ use Rattle.esa_spec.specs.declared.event.Event.TheVariants.{Claim, Read, Exchang
 
 -- an event is of one bucket or of none, so that a count over all is the sum of the counts over the buckets
 pub by_buckets : (test : Event → Bool) (test_of : ℕ → Event → Bool) (b : ℕ)
-    → ((g f : ℕ) → sum_by (λ j. bit (test_of j (event_of b g f))) (below b) ≡ bit (test (event_of b g f)))
+    → ((g f : ℕ) → f < b + 3 → sum_by (λ j. bit (test_of j (event_of b g f))) (below b) ≡ bit (test (event_of b g f)))
     → (h : List ℕ) → count_by test (events b h) ≡ sum_by (λ j. count_by (test_of j) (events b h)) (below b)
 by_buckets test test_of b one = by_pushes (λ h. count_by test (events b h) ≡ sum_by (λ j. count_by (test_of j) (events b h)) (below b))
     (sym (sum-below-zero (λ j. count_by (test_of j) []) b (λ x x_in. refl)))
     (λ h w before.
     let e = event_of b (held b h w) (next_phase b h w) in
     let hit = λ (j : ℕ). bit (test_of j e) in
+    let in_phases : next_phase b h w < b + 3 = omega arith in
     let push : (t : Event → Bool) → count_by t (events b (h ++ w ∷ [])) ≡ count_by t (events b h) + bit (t e) =
     λ t. ap (count_by t) (events-push b h w) ∙ sum_by_push (λ e. bit (t e)) (events b h) (next b h w) ∙ ap (λ y. count_by t (events b h) + bit (t y)) (next-by_phase b h w) in
     push test ∙ ap (λ y. y + bit (test e)) before
     ∙ sym (sum-below-same (λ j. count_by (test_of j) (events b (h ++ w ∷ []))) (λ j. count_by (test_of j) (events b h) + hit j) b (λ j j_in. push (test_of j))
     ∙ sum-below-add (λ j. count_by (test_of j) (events b h)) hit b
-    ∙ ap (λ y. sum_by (λ j. count_by (test_of j) (events b h)) (below b) + y) (one (held b h w) (next_phase b h w))))
+    ∙ ap (λ y. sum_by (λ j. count_by (test_of j) (events b h)) (below b) + y) (one (held b h w) (next_phase b h w) in_phases)))
 
 pub zeros : (b : ℕ) → sum_by (λ (j : ℕ). 0) (below b) ≡ 0
 zeros b = sum-below-zero (λ j. 0) b (λ x h. refl)
@@ -37,14 +38,16 @@ zeros b = sum-below-zero (λ j. 0) b (λ x h. refl)
 -- the chunks written are those of the buckets
 pub total-writes : (b : ℕ) (h : List ℕ) → writes b h ≡ sum_by (writes_of b h) (below b)
 total-writes b h = by_buckets is_write is_write_of b
-    (λ g f. event-by (λ e. sum_by (λ j. bit (is_write_of j e)) (below b) ≡ bit (is_write e)) b g f
+    (λ g f f_in. event-by (λ e. sum_by (λ j. bit (is_write_of j e)) (below b) ≡ bit (is_write e)) b g f
     (λ g_in phase. zeros b) (λ g_in phase. zeros b) (λ g_in phase. zeros b) (λ g_in late. hit-once g b g_in) (λ past. zeros b) (λ past. zeros b))
     h
 
 -- where all chunks are written, each bucket has written all of its own
+pub each-wrote : (b : ℕ) (h : List ℕ) → writes b h ≡ b * b → (j : ℕ) → j < b → writes_of b h j ≡ b
+each-wrote b h all j j_in = sum-below-full (writes_of b h) b b (writes_of-le b h) (sym (total-writes b h) ∙ all) j j_in
+
 pub each-written : (b : ℕ) (h : List ℕ) → writes b h ≡ b * b → (j : ℕ) → j < b → Written b h j
-each-written b h all j j_in =
-    all-written b h j j_in (sum-below-full (writes_of b h) b b (writes_of-le b h) (sym (total-writes b h) ∙ all) j j_in)
+each-written b h all j j_in = all-written b h j j_in (each-wrote b h all j j_in)
 
 -- an element that doesn't count
 passed : {X : Type 0} (f : X → ℕ) (x : X) (xs : List X) → f x ≡ 0 → sum_by f (x ∷ xs) ≡ sum_by f xs
@@ -87,7 +90,7 @@ exchanges-count (Idle ∷ es) = exchanges-count es ∙ sym (passed (λ e. bit (i
 
 pub total-exchanges : (b : ℕ) (h : List ℕ) → length (order b h) ≡ sum_by (exchanges_of b h) (below b)
 total-exchanges b h = exchanges-count (events b h) ∙ by_buckets is_exchange is_exchange_of b
-    (λ g f. event-by (λ e. sum_by (λ j. bit (is_exchange_of j e)) (below b) ≡ bit (is_exchange e)) b g f
+    (λ g f f_in. event-by (λ e. sum_by (λ j. bit (is_exchange_of j e)) (below b) ≡ bit (is_exchange e)) b g f
     (λ g_in phase. zeros b) (λ g_in phase. zeros b) (λ g_in phase. hit-once g b g_in) (λ g_in late. zeros b) (λ past. zeros b) (λ past. zeros b))
     h
 

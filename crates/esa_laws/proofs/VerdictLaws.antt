@@ -21,7 +21,7 @@ module _ (p : Sizes) (d : Draw) (h : List ℕ) (w : ℕ) where
     order-now : order p.b (h ++ w ∷ []) ≡ order p.b h ++ j ∷ []
     order-now = order-push p.b h w ∙ ap (λ y. order p.b h ++ option_to_list y) now
 
-    failing-by : (c : Bool) → overflows p d (order p.b h ++ j ∷ []) (length (order p.b h)) ≡ c
+    pub failing-by : (c : Bool) → overflows p d (order p.b h ++ j ∷ []) (length (order p.b h)) ≡ c
         → failing p d (order p.b (h ++ w ∷ [])) ≡ cond c (Some (length (order p.b h))) None
     failing-by c e =
         ap (failing p d) order-now ∙ failing-push p d (order p.b h) j

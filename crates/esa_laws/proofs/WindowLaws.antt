@@ -1,16 +1,17 @@
 -- The window's queue goes on by an import or by an output bucket, and tells the verdict of each step.
 use Rattle.std.proofs.Common.{◌≡◌, ℕ, suc, ◌+◌, ◌-◌, ◌*◌, ◌≤◌, ◌<◌, ⊎_elim, cond, List, [], ◌∷◌, ◌++◌, length, take, drop, sym, ◌∙◌, ap, arith, add-one, append-nil, length-drop}
-use Rattle.std.specs.List.{flat_map, range_with_len}
+use Rattle.std.specs.List.{flat_map, range_with_len, sum_by}
 use Rattle.std.specs.Prelude.{None, nat_lt}
 use Rattle.std.proofs.lemmas.Bool.{cases_lt, lt-ltb, le-ltb}
 use Rattle.std.proofs.lemmas.List.{drop-append-le, take-append-le, drop-drop}
 use Rattle.std.proofs.lemmas.List.Concat.{flat_map-append}
 use Rattle.esa_params.specs.Sizes.{Sizes, first, size, below}
-use Rattle.esa_laws.proofs.PlaceLaws.{length-imported, reached-arranged}
+use Rattle.esa_laws.proofs.PlaceLaws.{length-all_parts, length-imported, reached-arranged}
 use Rattle.esa_laws.proofs.Ranges.{below-suc, below-add}
 use Rattle.esa_laws.proofs.SizeLaws.{first-more}
 use Rattle.esa_spec.specs.Draws.{Draw, IsDrawn}
-use Rattle.esa_spec.specs.Places.{arranged, places, window, output_places}
+use Rattle.esa_spec.specs.Lines.{backlog, chunk}
+use Rattle.esa_spec.specs.Places.{exchange_of, arranged, places, window, output_places}
 use Rattle.esa_spec.specs.Turns.{order, writes}
 use Rattle.esa_spec.specs.Verdicts.{left, reached, imported, step_verdict, Import, Put}
 use Rattle.esa_spec.specs.declared.event.Verdict.TheVariants.{Good, QueueOverflow, QueueStarved}
@@ -29,6 +30,12 @@ module _ (p : Sizes) (d : Draw) (h : List ℕ) (drawn : IsDrawn p d) (all : writ
   -- how many places are in the queue
   pub length-window : (j i : ℕ) → i ≤ p.b → length (window p d (order p.b h) j i) ≡ reached p d i - first p j
   length-window j i i_in = length-drop (first p j) (flat_map (arranged p d (order p.b h)) (below i)) ∙ ap (λ y. y - first p j) (length-before i i_in)
+
+  pub window-parts : (j i : ℕ) → i ≤ p.b
+      → length (window p d (order p.b h) j i)
+      ≡ sum_by (λ t. sum_by (λ k. length (chunk p d (order p.b h) (exchange_of (order p.b h) k) t)) (below p.b) + backlog p d (order p.b h) p.b t) (below i) - first p j
+  window-parts j i i_in =
+      length-drop (first p j) (flat_map (arranged p d (order p.b h)) (below i)) ∙ ap (λ y. y - first p j) (length-all_parts p d h drawn all fits i i_in)
 
   -- an import
   pub import-verdict : (j i : ℕ) → i < p.b → first p j ≤ reached p d i

@@ -1,9 +1,9 @@
 //! How the attempts of a run follow one another, and the steps of a compression.
 
-ghost use Rattle.std.specs.Prelude.{◌≡◌, ℕ, ◌+◌, ◌==◌, true, ◌&&◌, if◌then◌else◌, Some, None, List, [], ◌∷◌, ◌++◌, length, map, count_by};
+ghost use Rattle.std.specs.Prelude.{◌≡◌, ℕ, ◌+◌, ◌==◌, true, false, ◌&&◌, if◌then◌else◌, Some, None, List, [], ◌∷◌, ◌++◌, length, map, count_by};
 ghost use Rattle.esa_params.specs.Sizes.{Sizes};
 ghost use Rattle.esa_spec.specs.Draws.{Draw};
-ghost use Rattle.esa_spec.specs.Traces.{attempt_trace, is_failed, all_failed, attempts, good_attempt, walk};
+ghost use Rattle.esa_spec.specs.Traces.{attempt_trace, is_failed, all_failed, attempts, good_attempt, trace, walk};
 ghost use Rattle.esa_spec.specs.Verdicts.{Step, step_verdict, is_good, first_bad, targets, reached, is_finished, verdict};
 
 /// One attempt more: it is made where each attempt before it failed, and succeeds where it is finished and good.
@@ -17,6 +17,18 @@ pub fn one_attempt_more()
         → good_attempt p ds a (hs ++ h ∷ [])
         ≡ (if is_finished p (ds (a + length hs)) h
         then (if is_good (verdict p (ds (a + length hs)) h) then Some (a + length hs) else None) else None) }
+{}
+
+/// Attempts behind one that is unfinished or good aren't made: their lists add nothing.
+pub fn later_attempts()
+    ensures attempts { (p : Sizes) (ds : ℕ → Draw) (a : ℕ) (hs more : List (List ℕ)) → all_failed p ds a hs ≡ false
+        → attempts p ds a (hs ++ more) ≡ attempts p ds a hs }
+    ensures good { (p : Sizes) (ds : ℕ → Draw) (a : ℕ) (hs more : List (List ℕ)) → all_failed p ds a hs ≡ false
+        → good_attempt p ds a (hs ++ more) ≡ good_attempt p ds a hs }
+    ensures trace { (p : Sizes) (ds : ℕ → Draw) (hs more : List (List ℕ)) → all_failed p ds 0 hs ≡ false
+        → trace p ds (hs ++ more) ≡ trace p ds hs }
+    ensures success { (p : Sizes) (ds : ℕ → Draw) (a m : ℕ) (hs : List (List ℕ)) → good_attempt p ds a hs ≡ Some m
+        → all_failed p ds a hs ≡ false }
 {}
 
 /// Steps of a compression, one part after another: the second part is made where the first one is good.

@@ -2,10 +2,10 @@
 
 ghost use Rattle.std.specs.Prelude.{◌≡◌, ℕ, ◌+◌, ◌*◌, ◌%◌, ◌<◌, ◌≤◌, true, false, None, List, ◌++◌, length, take, slice_index, All};
 ghost use Rattle.esa_params.specs.Sizes.{Sizes};
-ghost use Rattle.esa_spec.specs.Completion.{completed, full};
+ghost use Rattle.esa_spec.specs.Completion.{completed, full, all_finished, completions};
 ghost use Rattle.esa_spec.specs.Draws.{Draw};
 ghost use Rattle.esa_spec.specs.Places.{places};
-ghost use Rattle.esa_spec.specs.Traces.{attempt_trace};
+ghost use Rattle.esa_spec.specs.Traces.{attempt_trace, trace};
 ghost use Rattle.esa_spec.specs.Turns.{order, writes};
 ghost use Rattle.esa_spec.specs.Verdicts.{failing, is_finished, verdict};
 
@@ -22,7 +22,7 @@ pub fn completion_is_finished()
 {}
 
 /// The completion of a finished history is a beginning of it, with the same verdict, the same accesses and, where no
-/// exchange failed, the same places.
+/// exchange failed, the same places. So a run of finished histories makes the accesses of their completions.
 pub fn completion_is_a_prefix()
     ensures prefix { (p : Sizes) (d : Draw) (h : List ℕ) → is_finished p d h ≡ true → full p d h ≡ take (length (full p d h)) h }
     ensures finished { (p : Sizes) (d : Draw) (h : List ℕ) → is_finished p d h ≡ true → is_finished p d (full p d h) ≡ true }
@@ -31,6 +31,10 @@ pub fn completion_is_a_prefix()
         → attempt_trace p d a h ≡ attempt_trace p d a (full p d h) }
     ensures places { (p : Sizes) (d : Draw) (h : List ℕ) → is_finished p d h ≡ true → failing p d (order p.b (full p d h)) ≡ None
         → places p d h ≡ places p d (full p d h) }
+    ensures places_made { (p : Sizes) (d : Draw) (h : List ℕ) → is_finished p d h ≡ true → failing p d (order p.b h) ≡ None
+        → places p d h ≡ places p d (full p d h) }
+    ensures run { (p : Sizes) (ds : ℕ → Draw) (hs : List (List ℕ)) → all_finished p ds 0 hs ≡ true
+        → trace p ds (completions p ds 0 hs) ≡ trace p ds hs }
 {}
 
 /// Turns that are made after an attempt is finished change nothing.

@@ -1,6 +1,6 @@
 //! How a queue goes on when one more batch comes in.
 
-ghost use Rattle.std.specs.Prelude.{◌≡◌, ℕ, suc, ◌+◌, ◌-◌, ◌<◌, ◌≤◌, List, [], ◌∷◌, ◌++◌, length, take, drop};
+ghost use Rattle.std.specs.Prelude.{◌≡◌, ℕ, suc, ◌+◌, ◌-◌, ◌<◌, ◌≤◌, List, [], ◌∷◌, ◌++◌, length, take, drop, map};
 ghost use Rattle.esa_spec.specs.Queue.{joined, arrived, waiting, departed, leaving, queue};
 
 /// One batch more: up to c of those that waited and those that came in leave, the first ones first, and the others wait.
@@ -22,4 +22,19 @@ pub fn later_batches<T>()
     ensures waiting { (c : ℕ) (es more : List (List T)) (k : ℕ) → k ≤ length es → waiting c (es ++ more) k ≡ waiting c es k }
     ensures leaving { (c : ℕ) (es more : List (List T)) (k : ℕ) → k < length es → leaving c (es ++ more) k ≡ leaving c es k }
     ensures queue { (c : ℕ) (es more : List (List T)) (k : ℕ) → k ≤ length es → queue c (es ++ more) k ≡ queue c es k }
+{}
+
+/// Batches whose elements are others, one for each: what leaves and what waits are the others of those elements.
+pub fn mapped_batches<T, U>()
+    ensures waiting { (f : T → U) (c : ℕ) (es : List (List T)) (k : ℕ) → waiting c (map (map f) es) k ≡ waiting c es k }
+    ensures leaving { (f : T → U) (c : ℕ) (es : List (List T)) (k : ℕ) → leaving c (map (map f) es) k ≡ map f (leaving c es k) }
+    ensures queue { (f : T → U) (c : ℕ) (es : List (List T)) (k : ℕ) → queue c (map (map f) es) k ≡ map f (queue c es k) }
+{}
+
+/// How many wait and how many have left is a matter of the batches' lengths alone.
+pub fn lengths_decide<T, U>()
+    ensures waiting { (c : ℕ) (es : List (List T)) (fs : List (List U)) → map (λ e. length e) es ≡ map (λ e. length e) fs
+        → (k : ℕ) → waiting c es k ≡ waiting c fs k }
+    ensures departed { (c : ℕ) (es : List (List T)) (fs : List (List U)) → map (λ e. length e) es ≡ map (λ e. length e) fs
+        → (k : ℕ) → departed c es k ≡ departed c fs k }
 {}

@@ -1,6 +1,6 @@
 //! The buckets cover all places, and so do the targets.
 
-ghost use Rattle.std.specs.Prelude.{◌≡◌, ℕ, ◌+◌, ◌<◌, ◌≤◌, List, length, count_by, ◌==◌};
+ghost use Rattle.std.specs.Prelude.{◌≡◌, ℕ, ◌+◌, ◌<◌, ◌≤◌, List, length, map, count_by, ◌==◌};
 ghost use Rattle.esa_params.specs.Sizes.{Sizes, first, size};
 ghost use Rattle.esa_spec.specs.Draws.{Draw, IsDrawn, chosen};
 ghost use Rattle.esa_spec.specs.Lines.{chunk};
@@ -18,10 +18,20 @@ pub fn targets_cover()
     ensures { (p : Sizes) (d : Draw) → 1 ≤ p.b → IsDrawn p d → reached p d p.b ≡ p.n }
 {}
 
+/// No bucket has more places than the first one.
+pub fn buckets_shrink()
+    ensures { (p : Sizes) (j : ℕ) → size p j ≤ size p 0 }
+{}
+
 /// As many elements have a target as the target is there.
-pub fn chosen_are_counted()
-    ensures { (i : ℕ) (targets places : List ℕ) → length targets ≡ length places
-        → length (chosen i targets places) ≡ count_by (λ target. target == i) targets }
+pub fn chosen_are_counted<T>()
+    ensures { (i : ℕ) (targets : List ℕ) (xs : List T) → length targets ≡ length xs
+        → length (chosen i targets xs) ≡ count_by (λ target. target == i) targets }
+{}
+
+/// Other elements, one for each, are chosen as those were.
+pub fn chosen_of_a_map<T, U>()
+    ensures { (f : T → U) (i : ℕ) (targets : List ℕ) (xs : List T) → chosen i targets (map f xs) ≡ map f (chosen i targets xs) }
 {}
 
 /// A chunk has C places at most.

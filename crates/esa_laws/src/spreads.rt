@@ -1,12 +1,12 @@
 //! What one more turn adds to the accesses of an attempt.
 
-ghost use Rattle.std.specs.Prelude.{◌≡◌, ℕ, ◌<◌, true, false, None, List, [], ◌∷◌, ◌++◌, length, option_to_list};
+ghost use Rattle.std.specs.Prelude.{◌≡◌, ℕ, ◌+◌, ◌<◌, true, false, None, List, [], ◌∷◌, ◌++◌, length, take, slice_index, option_to_list};
 ghost use Rattle.esa_params.specs.Sizes.{Sizes};
 ghost use Rattle.esa_params.specs.declared.slot.Access.{Access};
 ghost use Rattle.esa_spec.specs.Draws.{Draw};
 ghost use Rattle.esa_spec.specs.Lines.{overflows};
-ghost use Rattle.esa_spec.specs.Traces.{asked, spread};
-ghost use Rattle.esa_spec.specs.Turns.{exchanged, next, order};
+ghost use Rattle.esa_spec.specs.Traces.{asked, made, spread};
+ghost use Rattle.esa_spec.specs.Turns.{event_at, events, exchanged, next, order};
 ghost use Rattle.esa_spec.specs.Verdicts.{failing, is_finished, verdict};
 ghost use Rattle.esa_spec.specs.declared.event.Verdict.TheVariants.{StashOverflow};
 
@@ -36,6 +36,20 @@ pub fn one_turn_fails()
         → overflows p d (order p.b h ++ j ∷ []) (length (order p.b h)) ≡ true → is_finished p d (h ++ w ∷ []) ≡ true }
     ensures overflow { (p : Sizes) (d : Draw) (h : List ℕ) (w j : ℕ) → failing p d (order p.b h) ≡ None → exchanged (next p.b h w) ≡ Some j
         → overflows p d (order p.b h ++ j ∷ []) (length (order p.b h)) ≡ true → verdict p d (h ++ w ∷ []) ≡ StashOverflow j }
+{}
+
+/// The turn with which an attempt fails: no exchange has failed before it, the failing one is its own, and the events up
+/// to it are those that count. Whatever turns follow, it stays so.
+pub fn failing_turn()
+    ensures turn { (p : Sizes) (d : Draw) (h : List ℕ) (k : ℕ) → failing p d (order p.b h) ≡ Some k
+        → (x : ℕ) × (x < length h)
+        × (failing p d (order p.b (take x h)) ≡ None)
+        × (failing p d (order p.b (take (x + 1) h)) ≡ Some k)
+        × (exchanged (event_at p.b h x) ≡ Some (slice_index (order p.b h) k))
+        × (length (order p.b (take x h)) ≡ k)
+        × (made (Some k) (events p.b h) ≡ events p.b (take (x + 1) h)) }
+    ensures stays { (p : Sizes) (d : Draw) (h more : List ℕ) (k : ℕ) → failing p d (order p.b h) ≡ Some k
+        → failing p d (order p.b (h ++ more)) ≡ Some k }
 {}
 
 /// The accesses of more turns begin with those of fewer.

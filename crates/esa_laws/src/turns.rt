@@ -1,6 +1,11 @@
 //! What a history tells of its turns when it goes on.
 
-ghost use Rattle.std.specs.Prelude.{◌≡◌, ◌≢◌, ℕ, ◌+◌, ◌<◌, ◌==◌, if◌then◌else◌, List, [], ◌∷◌, ◌++◌, length, option_to_list};
+ghost use Rattle.std.specs.Prelude.{◌≡◌, ◌≢◌, ℕ, ◌+◌, ◌<◌, ◌≤◌, ◌==◌, if◌then◌else◌, List, [], ◌∷◌, ◌++◌, length, count_by, option_to_list};
+ghost use Rattle.esa_params.specs.Sizes.{Sizes};
+ghost use Rattle.esa_spec.specs.Draws.{Draw};
+ghost use Rattle.esa_spec.specs.Lines.{chunk};
+ghost use Rattle.esa_spec.specs.Places.{exchange_of};
+ghost use Rattle.esa_spec.specs.declared.event.Event.{Event};
 ghost use Rattle.esa_spec.specs.Turns.{turns_of, event_at, events, next, next_phase, claims, held, acted, exchanged, order, is_write, writes};
 
 /// What a turn does stays the same when the history goes on.
@@ -24,4 +29,18 @@ pub fn rounds_go_on()
     ensures claimed { (b : ℕ) (h : List ℕ) (w : ℕ) → next_phase b h w ≡ 0 → held b h w ≡ claims b h }
     ensures own { (b : ℕ) (h : List ℕ) (w : ℕ) → next_phase b (h ++ w ∷ []) w ≢ 0 → held b (h ++ w ∷ []) w ≡ held b h w }
     ensures others { (b : ℕ) (h : List ℕ) (v w : ℕ) → v ≢ w → next_phase b h v ≢ 0 → held b (h ++ w ∷ []) v ≡ held b h v }
+{}
+
+/// Any turns more: the events and the exchanges go on, the exchange of a bucket keeps its number and its chunks, and a
+/// worker that had none of the turns stands where it stood.
+pub fn many_turns_more()
+    ensures events { (b : ℕ) (h more : List ℕ) → (others : List Event) × (events b (h ++ more) ≡ events b h ++ others) }
+    ensures order { (b : ℕ) (h more : List ℕ) → (others : List ℕ) × (order b (h ++ more) ≡ order b h ++ others) }
+    ensures exchange { (b : ℕ) (h more : List ℕ) (j : ℕ) → 1 ≤ count_by (λ k. k == j) (order b h)
+        → exchange_of (order b (h ++ more)) j ≡ exchange_of (order b h) j }
+    ensures chunk { (p : Sizes) (d : Draw) (h more : List ℕ) (j i : ℕ) → 1 ≤ count_by (λ k. k == j) (order p.b h)
+        → chunk p d (order p.b (h ++ more)) (exchange_of (order p.b (h ++ more)) j) i
+        ≡ chunk p d (order p.b h) (exchange_of (order p.b h) j) i }
+    ensures phase { (b : ℕ) (h more : List ℕ) (v : ℕ) → turns_of v more ≡ 0 → next_phase b (h ++ more) v ≡ next_phase b h v }
+    ensures held { (b : ℕ) (h more : List ℕ) (v : ℕ) → turns_of v more ≡ 0 → next_phase b h v ≢ 0 → held b (h ++ more) v ≡ held b h v }
 {}

@@ -1,9 +1,10 @@
 //! The window's queue: what it holds, and what each step of the compression finds there.
 
-ghost use Rattle.std.specs.Prelude.{◌≡◌, ℕ, suc, ◌+◌, ◌-◌, ◌*◌, ◌<◌, ◌≤◌, nat_lt, if◌then◌else◌, None, List, ◌++◌, length, take, drop};
-ghost use Rattle.esa_params.specs.Sizes.{Sizes, first, size};
+ghost use Rattle.std.specs.Prelude.{◌≡◌, ℕ, suc, ◌+◌, ◌-◌, ◌*◌, ◌<◌, ◌≤◌, nat_lt, if◌then◌else◌, None, List, ◌++◌, length, take, drop, sum_by};
+ghost use Rattle.esa_params.specs.Sizes.{Sizes, below, first, size};
 ghost use Rattle.esa_spec.specs.Draws.{Draw, IsDrawn};
-ghost use Rattle.esa_spec.specs.Places.{arranged, output_places, window};
+ghost use Rattle.esa_spec.specs.Lines.{backlog, chunk};
+ghost use Rattle.esa_spec.specs.Places.{exchange_of, arranged, output_places, window};
 ghost use Rattle.esa_spec.specs.Turns.{order, writes};
 ghost use Rattle.esa_spec.specs.Verdicts.{imported, left, reached, step_verdict, Import, Put};
 ghost use Rattle.esa_spec.specs.declared.event.Verdict.TheVariants.{Good, QueueOverflow, QueueStarved};
@@ -34,4 +35,13 @@ pub fn one_output()
         → take (size p j) (window p d (order p.b h) j i) ≡ output_places p d h j }
     ensures queue { (p : Sizes) (d : Draw) (h : List ℕ) → IsDrawn p d → writes p.b h ≡ p.b * p.b → left p d (order p.b h) ≡ None
         → (j i : ℕ) → drop (size p j) (window p d (order p.b h) j i) ≡ window p d (order p.b h) (j + 1) i }
+{}
+
+/// The queue is as long as the chunks and tails of the targets that were imported, less the places that were put out.
+pub fn parts_are_held()
+    ensures { (p : Sizes) (d : Draw) (h : List ℕ) → IsDrawn p d → writes p.b h ≡ p.b * p.b → left p d (order p.b h) ≡ None
+        → (j i : ℕ) → i ≤ p.b
+        → length (window p d (order p.b h) j i)
+        ≡ sum_by (λ t. sum_by (λ k. length (chunk p d (order p.b h) (exchange_of (order p.b h) k) t)) (below p.b) + backlog p d (order p.b h) p.b t) (below i)
+        - first p j }
 {}

@@ -1,2 +1,3 @@
 mod FilesOf
 mod Fronts
+mod Walks

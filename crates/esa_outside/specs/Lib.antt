@@ -4,3 +4,6 @@ pub mod Told
 pub mod Whole
 pub use Rattle.esa_lists.specs.Files
 pub mod Memory
+pub mod Heard
+pub mod Noted
+pub mod Host

@@ -8,6 +8,7 @@
 
 mod cabinet;
 mod host;
+mod log;
 mod memory;
 mod memory_printer;
 mod printer;

@@ -1,6 +1,6 @@
 //! A cabinet whose files lie in memory.
 
-ghost use Rattle.std.specs.Prelude.{◌≡◌, ◌≢◌, ◌+◌, ◌++◌, ◌⊎◌, ◌↔◌, Some, List, ℕ, [], length, IfSome, IfNone, IfOk, IsErr, OnOk, OnErr, All};
+ghost use Rattle.std.specs.Prelude.{◌≡◌, ◌≢◌, ◌+◌, ◌++◌, ◌∷◌, ◌⊎◌, ◌↔◌, Some, List, ℕ, [], length, IfSome, IfNone, IfOk, IsErr, OnOk, OnErr, All};
 ghost use Rattle.std.specs.Option.{option_copied};
 ghost use Rattle.std.specs.String.{string_bytes};
 ghost use Rattle.std.specs.FinMap as map;
@@ -10,8 +10,10 @@ ghost use Rattle.std.specs.Option.{option_map};
 ghost use Rattle.esa_outside.specs.Files.{Files};
 ghost use Rattle.esa_outside.specs.Calls.{IsListed, called, faulted, starved};
 ghost use Rattle.esa_outside.specs.Cause.{HasCause};
+ghost use Rattle.esa_outside.specs.Heard.{length_of, part_of, started as file_started, added as bytes_added, after};
 ghost use Rattle.esa_outside.specs.Told.{IsPart, EndsBefore, Lacks, HoldsFront};
 
+use crate::log::{Log, Note};
 use crate::schedule::Schedule;
 use crate::{Cabinet, Failed};
 use std::alloc::{AllocError, Global};
@@ -25,6 +27,7 @@ type File = (String, Vec<u8>);
 pub struct MemCabinet {
     files: Vec<File>,
     calls: Schedule,
+    heard: Log,
 }
 
 impl Model for MemCabinet {
@@ -34,7 +37,7 @@ impl Model for MemCabinet {
 
     ghost coded = { cabinet_code };
 
-    ghost view = { λ a. record { files = files_of a.files.items; calls = a.calls } };
+    ghost view = { λ a. record { files = files_of a.files.items; calls = a.calls; heard = a.heard.events } };
 }
 
 impl MemCabinet {
@@ -43,10 +46,12 @@ impl MemCabinet {
     pub fn make(files: Vec<(String, Vec<u8>)>, fails: Vec<u64>) -> MemCabinet
         ensures files { result.files ≡ files_of files.items }
         ensures calls { result.calls ≡ record { fails = fails.items; made = 0; faults = 0; starved = 0 } }
+        ensures heard { result.heard ≡ [] }
     {
         MemCabinet {
             files,
             calls: Schedule::make(fails),
+            heard: Log::new(),
         }
     }
 
@@ -80,6 +85,8 @@ impl Cabinet for MemCabinet {
 
     ghost faults = { λ cabinet. cabinet.calls.faults };
 
+    ghost heard = { λ cabinet. cabinet.heard };
+
     fn faults(&self) -> u64 {
         self.calls.faults()
     }
@@ -87,6 +94,7 @@ impl Cabinet for MemCabinet {
     fn length(&mut self, name: &str) -> Result<u64, Failed>
         ensures length { IfOk result (λ n. option_map length (map.get self.old.files name.now) ≡ Some n) }
         ensures files { self.new.files ≡ self.old.files }
+        ensures heard { self.new.heard ≡ after self.old.heard (λ n. length_of name.now n ∷ []) result }
         ensures cause { HasCause self.old.calls.faults self.new.calls.faults (EndsBefore (map.get self.old.files name.now) 0) result }
 
         // It fails exactly where its number is listed or the file is not there.
@@ -98,7 +106,11 @@ impl Cabinet for MemCabinet {
             return Err(Failed);
         }
         match find(&self.files, name) {
-            Some(held) => Ok(held.len() as u64),
+            Some(held) => {
+                let length = held.len() as u64;
+                self.heard = self.heard.then(&Note::LengthOf(name, length));
+                Ok(length)
+            }
             None => Err(Failed),
         }
     }
@@ -106,6 +118,7 @@ impl Cabinet for MemCabinet {
     fn read_at(&mut self, name: &str, at: u64, out: &mut [u8]) -> Result<(), Failed>
         ensures bytes { OnOk result (IsPart (map.get self.old.files name.now) at out.new) }
         ensures files { self.new.files ≡ self.old.files }
+        ensures heard { self.new.heard ≡ after self.old.heard (λ _. part_of name.now at out.new ∷ []) result }
         ensures cause { HasCause self.old.calls.faults self.new.calls.faults (EndsBefore (map.get self.old.files name.now) (at + length out.old)) result }
 
         // It fails exactly where its number is listed, or the file is not there or ends before.
@@ -117,7 +130,11 @@ impl Cabinet for MemCabinet {
             return Err(Failed);
         }
         match find(&self.files, name) {
-            Some(held) => copy_part(held, at, out),
+            Some(held) => {
+                copy_part(held, at, out)?;
+                self.heard = self.heard.then(&Note::PartOf(name, at, out));
+                Ok(())
+            }
             None => Err(Failed),
         }
     }
@@ -125,6 +142,7 @@ impl Cabinet for MemCabinet {
     fn start(&mut self, name: &str) -> Result<(), Failed>
         ensures started { OnOk result (self.new.files ≡ map.insert self.old.files name.now []) }
         ensures failed { OnErr result (self.new.files ≡ self.old.files) }
+        ensures heard { self.new.heard ≡ after self.old.heard (λ _. file_started name.now ∷ []) result }
         ensures cause { HasCause self.old.calls.faults self.new.calls.faults ⊥ result }
 
         // It fails exactly where its number is listed or there is no memory.
@@ -137,7 +155,10 @@ impl Cabinet for MemCabinet {
         }
         let alloc = *self.files.allocator();
         match lay(alloc, &mut self.files, name, Vec::new(alloc)) {
-            Ok(()) => Ok(()),
+            Ok(()) => {
+                self.heard = self.heard.then(&Note::Started(name));
+                Ok(())
+            }
             Err(_) => {
                 self.calls.starve();
                 Err(Failed)
@@ -151,6 +172,7 @@ impl Cabinet for MemCabinet {
         ensures failed { (files : Files) (held : List ℕ) → Some self.old.files ≡ Some files → map.get files name.now ≡ Some held
             → OnErr result (HoldsFront files name.now (held ++ bytes.now) (Some self.new.files)) }
         ensures kept { OnErr result (self.new.files ≡ self.old.files) }
+        ensures heard { self.new.heard ≡ after self.old.heard (λ _. bytes_added name.now bytes.now ∷ []) result }
         ensures cause { HasCause self.old.calls.faults self.new.calls.faults (EndsBefore (map.get self.old.files name.now) 0) result }
 
         // It fails exactly where its number is listed, the file is not there, or there is no memory.
@@ -164,7 +186,10 @@ impl Cabinet for MemCabinet {
             return Err(Failed);
         }
         match extend(&mut self.files, name, bytes) {
-            Ok(()) => Ok(()),
+            Ok(()) => {
+                self.heard = self.heard.then(&Note::Added(name, bytes));
+                Ok(())
+            }
             Err(NotExtended::Absent) => Err(Failed),
             Err(NotExtended::NoMemory) => {
                 self.calls.starve();

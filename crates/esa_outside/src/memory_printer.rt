@@ -1,10 +1,12 @@
 //! A printer that keeps what it printed in memory.
 
-ghost use Rattle.std.specs.Prelude.{◌≡◌, ◌++◌, Some, List, ℕ, [], IsErr, OnOk, OnErr};
+ghost use Rattle.std.specs.Prelude.{◌≡◌, ◌++◌, ◌∷◌, Some, List, ℕ, [], IsErr, OnOk, OnErr};
 ghost use Rattle.esa_outside.specs.Calls.{IsListed, called, faulted, starved};
 ghost use Rattle.esa_outside.specs.Cause.{HasCause};
+ghost use Rattle.esa_outside.specs.Heard.{printed as text_printed, after};
 ghost use Rattle.esa_outside.specs.Told.{line_of, AddsFront};
 
+use crate::log::{Log, Note};
 use crate::schedule::Schedule;
 use crate::{Failed, Printer};
 use std::marker::Model;
@@ -14,6 +16,7 @@ use std::marker::Model;
 pub struct MemPrinter {
     printed: Vec<u8>,
     calls: Schedule,
+    heard: Log,
 }
 
 impl Model for MemPrinter {
@@ -23,7 +26,7 @@ impl Model for MemPrinter {
 
     ghost coded = { printer_code };
 
-    ghost view = { λ a. record { printed = a.printed.items; calls = a.calls } };
+    ghost view = { λ a. record { printed = a.printed.items; calls = a.calls; heard = a.heard.events } };
 }
 
 impl MemPrinter {
@@ -32,10 +35,12 @@ impl MemPrinter {
     pub fn make(fails: Vec<u64>) -> MemPrinter
         ensures printed { result.printed ≡ [] }
         ensures calls { result.calls ≡ record { fails = fails.items; made = 0; faults = 0; starved = 0 } }
+        ensures heard { result.heard ≡ [] }
     {
         MemPrinter {
             printed: Vec::new(*fails.allocator()),
             calls: Schedule::make(fails),
+            heard: Log::new(),
         }
     }
 
@@ -59,6 +64,8 @@ impl Printer for MemPrinter {
 
     ghost faults = { λ printer. printer.calls.faults };
 
+    ghost heard = { λ printer. printer.heard };
+
     fn faults(&self) -> u64 {
         self.calls.faults()
     }
@@ -66,6 +73,7 @@ impl Printer for MemPrinter {
     fn line(&mut self, text: &[u8]) -> Result<(), Failed>
         ensures printed { OnOk result (self.new.printed ≡ self.old.printed ++ line_of text.now) }
         ensures failed { (bytes : List ℕ) → Some self.old.printed ≡ Some bytes → OnErr result (AddsFront bytes (line_of text.now) (Some self.new.printed)) }
+        ensures heard { self.new.heard ≡ after self.old.heard (λ _. text_printed text.now ∷ []) result }
         ensures cause { HasCause self.old.calls.faults self.new.calls.faults ⊥ result }
 
         // It fails exactly where its number is listed or there is no memory.
@@ -77,7 +85,10 @@ impl Printer for MemPrinter {
             return Err(Failed);
         }
         match print(&mut self.printed, text) {
-            Ok(()) => Ok(()),
+            Ok(()) => {
+                self.heard = self.heard.then(&Note::Printed(text));
+                Ok(())
+            }
             Err(_) => {
                 self.calls.starve();
                 Err(Failed)

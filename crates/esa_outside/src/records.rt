@@ -1,8 +1,9 @@
 //! A batch of records, all of one length.
 
-ghost use Rattle.std.specs.Prelude.{◌≡◌, ◌*◌, ◌+◌, ◌≤◌, ℕ, List, Option, OnOk, All, IsOk, length, take, drop, []};
+ghost use Rattle.std.specs.Prelude.{◌≡◌, ◌*◌, ◌+◌, ◌≤◌, ℕ, List, Option, OnOk, All, IsOk, Some, length, take, drop, []};
 ghost use Rattle.std.specs.List.{concat};
 ghost use Rattle.esa_outside.specs.Cause.{HasCause};
+ghost use Rattle.esa_outside.specs.Heard.{Event, after};
 
 use crate::Failed;
 
@@ -30,6 +31,12 @@ pub trait Records {
     /// How many calls failed, or 2^64 - 1 if they were more.
     ghost faults: { Self → ℕ };
 
+    /// What the calls of the cabinet under it gave or took, for a list that is read from a cabinet.
+    ghost heard: { Self → List Event };
+
+    /// What is heard where these bytes are read from a place on, by the plain value that no call changes.
+    ghost part: { Self.Ground → ℕ → List ℕ → List Event };
+
     /// How many calls failed, or 2^64 - 1 if they were more.
     fn faults(&self) -> u64
         ensures { result ≡ faults self.now };
@@ -54,6 +61,7 @@ pub trait Records {
         ensures grounds { grounds self.new ≡ grounds self.old }
         ensures count { count self.new ≡ count self.old }
         ensures size { size self.new ≡ size self.old }
+        ensures heard { heard self.new ≡ after (heard self.old) (λ _. part (grounds self.old) first out.new) result }
         ensures cause { HasCause (faults self.old) (faults self.new) ⊥ result }
         ensures empty { out.old ≡ [] → IsOk result × (faults self.new ≡ faults self.old) };
 }

@@ -1,11 +1,12 @@
 //! A file that is read to its end, if it is no longer than a limit.
 
-ghost use Rattle.std.specs.Prelude.{◌≡◌, ◌<◌, ◌≤◌, ℕ, Option, IfOk, IfErr, length};
+ghost use Rattle.std.specs.Prelude.{◌≡◌, ◌<◌, ◌≤◌, ◌++◌, ◌∷◌, [], ℕ, Option, IfOk, IfErr, length};
 ghost use Rattle.std.specs.FinMap as map;
 ghost use Rattle.esa_outside.specs.Files.{Files};
 ghost use Rattle.esa_outside.specs.declared.whole.ReadRefused.TheVariants.{Failed as NotRead, OutOfMemory};
 ghost use Rattle.esa_outside.specs.Told.{Lacks};
-ghost use Rattle.esa_outside.specs.Whole.{Counted, Refuses};
+ghost use Rattle.esa_outside.specs.Heard.{length_of, part_of};
+ghost use Rattle.esa_outside.specs.Whole.{Counted, Refuses, HasHeard};
 
 use crate::{Cabinet, Failed};
 use std::alloc::{AllocError, Global};
@@ -51,6 +52,10 @@ pub fn read_whole<K: Cabinet>(
     ensures refused { (files : Files) → K.told cabinet.old ≡ Some files → IfErr result (Refuses (map.get files name.now) limit) }
     ensures past_limit { (n : ℕ) → result ≡ Err (ReadRefused.TooLarge n) → limit < n }
     ensures told { K.told cabinet.new ≡ K.told cabinet.old }
+
+    // What is heard is the file's length, and then all its bytes.
+    ensures heard { IfOk result (λ bytes. K.heard cabinet.new ≡ K.heard cabinet.old ++ length_of name.now (length bytes.items) ∷ part_of name.now 0 bytes.items ∷ []) }
+    ensures heard_refused { IfErr result (HasHeard (K.heard cabinet.old) name.now limit (K.heard cabinet.new)) }
     ensures cause { Counted (K.faults cabinet.old) (K.faults cabinet.new) (Lacks (K.told cabinet.old) name.now 0) result }
 {
     let length = cabinet.length(name)?;

@@ -1,2 +1,3 @@
 pub mod UnderwayLaws
+pub mod HeardLaws
 pub mod WritingLaws

@@ -3,7 +3,9 @@
 ghost use Rattle.std.specs.Prelude.{◌≡◌, ◌+◌, ◌≤◌, ◌++◌, List, [], ℕ, Option, length, IfOk, OnOk, OnErr};
 ghost use Rattle.esa_outside.specs.Files.{Files};
 ghost use Rattle.esa_outside.specs.Cause.{HasCause};
+ghost use Rattle.esa_outside.specs.Heard.{Event};
 ghost use Rattle.esa_page.specs.Underway.{IsUnderway, IsWhole, IsLeft};
+ghost use Rattle.esa_page.specs.Writing.{IsWriting, HasWritten, HasBroken};
 
 use esa_outside::{Cabinet, Failed};
 use std::marker::Model;
@@ -79,6 +81,12 @@ impl Page {
         ensures sent { (before : Option Files) (text : List ℕ)
             → IsUnderway before name.now text self.old (K.told cabinet.old)
             → OnOk result (IsUnderway before name.now text self.new (K.told cabinet.new)) }
+        ensures heard { (before : List Event) (text : List ℕ)
+            → IsWriting before name.now text self.old (K.heard cabinet.old)
+            → OnOk result (IsWriting before name.now text self.new (K.heard cabinet.new)) }
+        ensures heard_broken { (before : List Event) (text : List ℕ)
+            → IsWriting before name.now text self.old (K.heard cabinet.old)
+            → OnErr result (HasBroken before name.now text (K.heard cabinet.new)) }
         ensures empty { OnOk result (self.new ≡ []) }
         ensures failed { (before : Option Files) (text : List ℕ)
             → IsUnderway before name.now text self.old (K.told cabinet.old)
@@ -95,6 +103,8 @@ impl Page {
     /// Starts the file: it is empty, and nothing waits.
     pub fn start<K: Cabinet>(cabinet: &mut K, name: &str) -> Result<Page, Failed>
         ensures started { IfOk result (λ page. IsUnderway (K.told cabinet.old) name.now [] page (K.told cabinet.new)) }
+        ensures heard { IfOk result (λ page. IsWriting (K.heard cabinet.old) name.now [] page (K.heard cabinet.new)) }
+        ensures heard_broken { OnErr result (HasBroken (K.heard cabinet.old) name.now [] (K.heard cabinet.new)) }
         ensures failed { OnErr result (IsLeft (K.told cabinet.old) name.now [] (K.told cabinet.new)) }
         ensures cause { HasCause (K.faults cabinet.old) (K.faults cabinet.new) ⊥ result }
     {
@@ -104,8 +114,8 @@ impl Page {
 
     /// Puts bytes behind those that wait, and sends those first where there is no room.
     ///
-    /// The clauses speak of a file whose text so far is `text`, in a cabinet that told `before` when the file
-    /// was started.
+    /// The clauses speak of a file whose text so far is `text`, in a cabinet that told `before`, or was heard to have
+    /// given and taken `before`, when the file was started.
     pub fn put<K: Cabinet>(
         &mut self,
         cabinet: &mut K,
@@ -116,6 +126,12 @@ impl Page {
         ensures added { (before : Option Files) (text : List ℕ)
             → IsUnderway before name.now text self.old (K.told cabinet.old)
             → OnOk result (IsUnderway before name.now (text ++ bytes.now) self.new (K.told cabinet.new)) }
+        ensures heard { (before : List Event) (text : List ℕ)
+            → IsWriting before name.now text self.old (K.heard cabinet.old)
+            → OnOk result (IsWriting before name.now (text ++ bytes.now) self.new (K.heard cabinet.new)) }
+        ensures heard_broken { (before : List Event) (text : List ℕ)
+            → IsWriting before name.now text self.old (K.heard cabinet.old)
+            → OnErr result (HasBroken before name.now text (K.heard cabinet.new)) }
         ensures failed { (before : Option Files) (text : List ℕ)
             → IsUnderway before name.now text self.old (K.told cabinet.old)
             → OnErr result (IsLeft before name.now text (K.told cabinet.new)) }
@@ -135,6 +151,12 @@ impl Page {
         ensures whole { (before : Option Files) (text : List ℕ)
             → IsUnderway before name.now text self (K.told cabinet.old)
             → OnOk result (IsWhole before name.now text (K.told cabinet.new)) }
+        ensures heard { (before : List Event) (text : List ℕ)
+            → IsWriting before name.now text self (K.heard cabinet.old)
+            → OnOk result (HasWritten before name.now text (K.heard cabinet.new)) }
+        ensures heard_broken { (before : List Event) (text : List ℕ)
+            → IsWriting before name.now text self (K.heard cabinet.old)
+            → OnErr result (HasBroken before name.now text (K.heard cabinet.new)) }
         ensures failed { (before : Option Files) (text : List ℕ)
             → IsUnderway before name.now text self (K.told cabinet.old)
             → OnErr result (IsLeft before name.now text (K.told cabinet.new)) }

@@ -4,6 +4,10 @@ ghost use Rattle.std.specs.Prelude.{◌≡◌, IfOk, IfErr};
 ghost use Rattle.esa_params.specs.Limits.{is_from, first_past, numbers_of};
 
 use crate::field::ParamField;
+use crate::limits::{
+    MOST_ATTEMPTS, MOST_BUCKETS, MOST_IN_THE_MIDDLE, MOST_OF_A_CHUNK, MOST_OF_A_TAIL,
+    MOST_OF_THE_QUEUE, MOST_OF_THE_STASH, MOST_WORKERS,
+};
 use std::marker::Model;
 
 /// The parameters of a shuffle as a job states them.
@@ -32,23 +36,23 @@ impl Params {
     fn first_past(&self) -> Option<ParamField>
         ensures { result ≡ first_past self.now }
     {
-        if !is_from(self.b, 1, 256) {
+        if !is_from(self.b, 1, MOST_BUCKETS) {
             Some(ParamField::B)
-        } else if !is_from(self.c, 1, 1_024) {
+        } else if !is_from(self.c, 1, MOST_OF_A_CHUNK) {
             Some(ParamField::C)
-        } else if !is_from(self.s, 0, 262_144) {
+        } else if !is_from(self.s, 0, MOST_OF_THE_STASH) {
             Some(ParamField::S)
-        } else if !is_from(self.k, 0, 4_096) {
+        } else if !is_from(self.k, 0, MOST_OF_A_TAIL) {
             Some(ParamField::K)
         } else if !is_from(self.w, 1, self.b) {
             Some(ParamField::W)
-        } else if !is_from(self.q, 1, 1_048_576) {
+        } else if !is_from(self.q, 1, MOST_OF_THE_QUEUE) {
             Some(ParamField::Q)
-        } else if !is_from(self.b * (self.b * self.c + self.k), 0, 4_194_304) {
+        } else if !is_from(self.b * (self.b * self.c + self.k), 0, MOST_IN_THE_MIDDLE) {
             Some(ParamField::Mid)
-        } else if !is_from(self.workers, 1, 16) {
+        } else if !is_from(self.workers, 1, MOST_WORKERS) {
             Some(ParamField::Workers)
-        } else if !is_from(self.attempts, 1, 16) {
+        } else if !is_from(self.attempts, 1, MOST_ATTEMPTS) {
             Some(ParamField::Attempts)
         } else {
             None

@@ -17,6 +17,14 @@ draw_of p targets = record {
   order = λ i. below (p.b * p.c + p.k);
 }
 
+-- the same with another order for the target 0
+abbrev pub first_order : List ℕ → (ℕ → List ℕ) → ℕ → List ℕ
+first_order own others zero = own
+first_order own others (suc i) = others (suc i)
+
+abbrev pub ordered_draw : Sizes → List ℕ → List ℕ → Draw
+ordered_draw p targets own = record (draw_of p targets) { order = first_order own (draw_of p targets).order }
+
 -- four records in two buckets, whose stash and queue are never full
 abbrev pub base : Sizes
 base = record { n = 4; b = 2; c = 1; s = 2; k = 1; w = 2; q = 4; workers = 1; attempts = 1; form = One }

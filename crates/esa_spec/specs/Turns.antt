@@ -90,3 +90,8 @@ is_write _ = false
 -- how many chunks were written
 abbrev pub writes : ℕ → List ℕ → ℕ
 writes b h = count_by is_write (events b h)
+
+-- an event writes the chunk of bucket j for the target i
+abbrev pub is_write_at : ℕ → ℕ → Event → Bool
+is_write_at j i (Write bucket target) = bucket == j && target == i
+is_write_at j i _ = false

@@ -3,12 +3,12 @@
 ghost use Rattle.std.specs.Prelude.{◌≡◌, ℕ, ◌+◌, ◌^◌, List, [], ◌∷◌, length, replicate, take, drop, slice_range, map};
 ghost use Rattle.esa_params.specs.Sizes.{size, below};
 ghost use Rattle.esa_params.specs.Slots.{length_at};
-ghost use Rattle.esa_spec.specs.Cases.{base, base_targets, base_trace, no_stash, draw_of, two_draws, completed_from_none, nonce};
+ghost use Rattle.esa_spec.specs.Cases.{base, base_targets, base_trace, no_stash, draw_of, ordered_draw, two_draws, completed_from_none, nonce};
 ghost use Rattle.esa_spec.specs.Completion.{full};
 ghost use Rattle.esa_spec.specs.Files.{trace_bytes, turns_bytes};
 ghost use Rattle.esa_spec.specs.Histories.{lists, latest};
-ghost use Rattle.esa_spec.specs.Lines.{queued, stashed};
-ghost use Rattle.esa_spec.specs.Places.{places};
+ghost use Rattle.esa_spec.specs.Lines.{chunk, queued, stashed};
+ghost use Rattle.esa_spec.specs.Places.{output_places, places, window};
 ghost use Rattle.esa_spec.specs.Traces.{trace};
 ghost use Rattle.esa_spec.specs.Turns.{events, order};
 ghost use Rattle.esa_spec.specs.Verdicts.{verdict};
@@ -53,7 +53,36 @@ fn two_workers()
     ensures verdict { verdict (record base { workers = 2 }) (draw_of base base_targets) (0 ∷ 1 ∷ 1 ∷ 1 ∷ 0 ∷ 1 ∷ 0 ∷ 1 ∷ 0 ∷ 1 ∷ 0 ∷ []) ≡ Good }
     ensures places { places (record base { workers = 2 }) (draw_of base base_targets) (0 ∷ 1 ∷ 1 ∷ 1 ∷ 0 ∷ 1 ∷ 0 ∷ 1 ∷ 0 ∷ 1 ∷ 0 ∷ [])
         ≡ 0 ∷ 3 ∷ 1 ∷ 2 ∷ [] }
+    ensures counts_of_bucket_1 { map (λ i. length (chunk (record base { workers = 2 }) (draw_of base base_targets) (1 ∷ 0 ∷ []) 0 i)) (below 2) ≡ 1 ∷ 1 ∷ [] }
+    ensures counts_of_bucket_0 { map (λ i. length (chunk (record base { workers = 2 }) (draw_of base base_targets) (1 ∷ 0 ∷ []) 1 i)) (below 2) ≡ 1 ∷ 0 ∷ [] }
+    ensures first_chunk { chunk (record base { workers = 2 }) (draw_of base base_targets) (1 ∷ 0 ∷ []) 0 0 ≡ 3 ∷ [] }
+    ensures second_chunk { chunk (record base { workers = 2 }) (draw_of base base_targets) (1 ∷ 0 ∷ []) 1 0 ≡ 0 ∷ [] }
+    ensures queued { queued (record base { workers = 2 }) (draw_of base base_targets) (1 ∷ 0 ∷ []) 2 0 ≡ 1 ∷ [] }
+    ensures history { latest 2 (2 ∷ 0 ∷ 1 ∷ 1 ∷ 1 ∷ 0 ∷ 1 ∷ 0 ∷ 1 ∷ 0 ∷ 1 ∷ 0 ∷ []) ≡ 0 ∷ 1 ∷ 1 ∷ 1 ∷ 0 ∷ 1 ∷ 0 ∷ 1 ∷ 0 ∷ 1 ∷ 0 ∷ [] }
     ensures file { turns_bytes ((0 ∷ 1 ∷ []) ∷ (1 ∷ []) ∷ []) ≡ 48 ∷ 10 ∷ 49 ∷ 10 ∷ 110 ∷ 101 ∷ 120 ∷ 116 ∷ 10 ∷ 49 ∷ 10 ∷ [] }
+{}
+
+// The order of target 0 is 2, 0, 1, 3: the third entry of its import comes first. Its import is 0, 1, 3 and a pad, and
+// that of target 1 is two pads, 2 and a pad.
+fn ordered()
+    ensures verdict { verdict no_stash (ordered_draw no_stash base_targets (2 ∷ 0 ∷ 1 ∷ 3 ∷ [])) (replicate 10 0) ≡ Good }
+    ensures places { places no_stash (ordered_draw no_stash base_targets (2 ∷ 0 ∷ 1 ∷ 3 ∷ [])) (replicate 10 0) ≡ 3 ∷ 0 ∷ 1 ∷ 2 ∷ [] }
+    ensures first_output { output_places no_stash (ordered_draw no_stash base_targets (2 ∷ 0 ∷ 1 ∷ 3 ∷ [])) (replicate 10 0) 0 ≡ 3 ∷ 0 ∷ [] }
+    ensures as_it_stands { places no_stash (ordered_draw no_stash base_targets (0 ∷ 1 ∷ 2 ∷ 3 ∷ [])) (replicate 10 0) ≡ 0 ∷ 1 ∷ 3 ∷ 2 ∷ [] }
+    ensures accesses { trace no_stash (λ _. ordered_draw no_stash base_targets (2 ∷ 0 ∷ 1 ∷ 3 ∷ [])) (replicate 10 0 ∷ [])
+        ≡ trace no_stash (λ _. draw_of no_stash base_targets) (replicate 10 0 ∷ []) }
+{}
+
+// The window is one bucket wide, and a queue of three is enough: output bucket 0 is written before intermediate bucket 1
+// is imported. With a window of two buckets the queue would have to hold all four.
+fn narrow_window()
+    ensures verdict { verdict (record no_stash { w = 1; q = 3 }) (draw_of no_stash base_targets) (replicate 10 0) ≡ Good }
+    ensures wide { verdict (record no_stash { q = 3 }) (draw_of no_stash base_targets) (replicate 10 0) ≡ QueueOverflow 1 }
+    ensures places { places (record no_stash { w = 1; q = 3 }) (draw_of no_stash base_targets) (replicate 10 0) ≡ 0 ∷ 1 ∷ 3 ∷ 2 ∷ [] }
+    ensures held { window (record no_stash { w = 1; q = 3 }) (draw_of no_stash base_targets) (0 ∷ 1 ∷ []) 1 1 ≡ 3 ∷ [] }
+    ensures accesses { map nonce (slice_range (trace (record no_stash { w = 1; q = 3 }) (λ _. draw_of no_stash base_targets) (replicate 10 0 ∷ [])) 10 18)
+        ≡ 2 ∷ 4 ∷ 6 ∷ 8 ∷ 3 ∷ 5 ∷ 7 ∷ 9 ∷ [] }
+    ensures count { length (trace (record no_stash { w = 1; q = 3 }) (λ _. draw_of no_stash base_targets) (replicate 10 0 ∷ [])) ≡ 22 }
 {}
 
 // A history of two attempts of two workers, and one that is still in its second attempt.
@@ -142,6 +171,8 @@ fn worked_cases() {
     base_file();
     form_two_sizes();
     two_workers();
+    ordered();
+    narrow_window();
     two_attempts();
     stash_zero();
     stash_exactly_full();

@@ -1,7 +1,8 @@
 //! The stash: a queue of items for each target, in one arena.
 
 ghost use Rattle.std.specs.Prelude.{ℕ, ◌≡◌, ◌≢◌, ◌*◌, ◌≤◌, ◌<◌, ◌↔◌, List, [], ◌∷◌, ◌++◌, All, length, map, take, slice_set, IfOk, IfErr, IsOk, OnOk, OnErr};
-ghost use Rattle.esa_stash.specs.Stash.{Handed, contents, empty_stash, without, queue_at, padded, chunks as chunks_of, counts as counts_of, exchanged, total};
+ghost use Rattle.esa_stash.specs.Stash.{Handed, contents, empty_stash, without, queue_at, padded, chunks as chunks_of, counts as counts_of, exchanged, padded_chunk, total};
+ghost use Rattle.esa_stash.specs.Dealing.{chunk_at};
 ghost use Rattle.esa_stash.specs.Since.{IsSince, HasTail, tail, tail_length, last_chunks, last_counts, total_backlog};
 
 use crate::cells::Cells;
@@ -89,6 +90,9 @@ impl Stash {
         ensures queues { OnOk result (contents self.new ≡ exchanged (contents self.old) (targets.now, items.now)) }
         ensures chunks { OnOk result (chunks.new ≡ chunks_of (contents self.old) (targets.now, items.now)) }
         ensures counts { OnOk result (counts.new ≡ counts_of (contents self.old) (targets.now, items.now)) }
+
+        // Each chunk at its place.
+        ensures each { OnOk result ((i : ℕ) → i < length (contents self.old).queues → chunk_at self.old.c chunks.new i ≡ padded_chunk (contents self.old) (targets.now, items.now) i) }
         ensures overflow { IfErr result (λ e. e.total ≡ total (exchanged (contents self.old) (targets.now, items.now))) }
 
         // The same by all that was handed over since the stash was empty, each time with Ok and no spill between.

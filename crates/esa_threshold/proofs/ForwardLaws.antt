@@ -12,7 +12,6 @@ use Rattle.esa_header.specs.declared.header.HeaderRefused.{HeaderRefused}
 use Rattle.esa_header.specs.Header.{header_length, header_bytes, header_in, file_length, IsFileOf}
 use Rattle.esa_header.proofs.HeaderLaws.{AreBytes, header_in-spelled, header_in-accepts, no_test, not_below, length-header_bytes}
 use Rattle.esa_header.proofs.PieceLaws.{concat-pieces, length-pieces, HaveLength-pieces, length-concat}
-use Rattle.esa_threshold.specs.declared.forward.TheConstants.{MOST_RECORDS}
 use Rattle.esa_threshold.specs.declared.envelopes.Forwarded.{Forwarded}
 use Rattle.esa_threshold.specs.declared.refused.ForwardRefused.{ForwardRefused}
 use Rattle.esa_threshold.specs.declared.refused.ForwardRefused.TheVariants.{TooMany, OutOfMemory}
@@ -21,7 +20,7 @@ use Rattle.esa_threshold.specs.Forward.{forward_front, forward_bytes, CanForward
 behind-size : (bytes : List ℕ) (header : Header) → length bytes ≡ file_length Forward header → length (drop (header_length header.form) bytes) ≡ inner_length header.form * header.count
 behind-size bytes header size = omega (arith, length-drop (header_length header.form) bytes)
 
-of_file : (bytes : List ℕ) (header : Header) → IsFileOf Forward header bytes → header.count ≤ MOST_RECORDS → IsForwardFile (record { form = header.form; epoch = header.epoch; envelopes = drop (header_length header.form) bytes }) bytes
+of_file : (bytes : List ℕ) (header : Header) → IsFileOf Forward header bytes → header.count ≤ 262144 → IsForwardFile (record { form = header.form; epoch = header.epoch; envelopes = drop (header_length header.form) bytes }) bytes
 of_file bytes header is few =
     let rest = drop (header_length header.form) bytes in
     let size = inner_length header.form in
@@ -43,14 +42,14 @@ forward_in-spelled bytes are forwarded read = by_header (header_in Forward bytes
     by_header : (r : Result Header HeaderRefused) → header_in Forward bytes (length bytes) ≡ r → behind_header bytes (tested_number r) ≡ Ok forwarded → IsForwardFile forwarded bytes
     by_header (Err refused) first rest = cc
     by_header (Ok header) first rest =
-        elim (nat_lt MOST_RECORDS header.count) as (λ b. nat_lt MOST_RECORDS header.count ≡ b → behind_header bytes (cond b (Err (TooMany header.count)) (Ok header)) ≡ Ok forwarded → IsForwardFile forwarded bytes) [
+        elim (nat_lt 262144 header.count) as (λ b. nat_lt 262144 header.count ≡ b → behind_header bytes (cond b (Err (TooMany header.count)) (Ok header)) ≡ Ok forwarded → IsForwardFile forwarded bytes) [
           | true ↦ λ _ h. cc
           | false ↦ λ e h.
               let same : record { form = header.form; epoch = header.epoch; envelopes = drop (header_length header.form) bytes } ≡ forwarded = cc in
               subst (λ f. IsForwardFile f bytes) same (of_file bytes header (header_in-spelled Forward bytes are header first) (not_below _ _ e))
         ] refl rest
 
-fits : (n : ℕ) → n ≤ MOST_RECORDS → n < 2 ^ 32
+fits : (n : ℕ) → n ≤ 262144 → n < 2 ^ 32
 fits n few = omega arith
 
 pub forward_in-accepts : (form : Form) (epoch : ℕ) (envelopes : List (List ℕ)) → CanForward form epoch envelopes → forward_in (forward_bytes form epoch envelopes) ≡ Ok (forwarded_as form epoch envelopes)
@@ -65,7 +64,7 @@ forward_in-accepts form epoch envelopes can =
       size = length-append (header_bytes Forward header) joined ∙ (λ i. front_size i + length-concat (inner_length form) envelopes can.lengths i);
     } in
     ap (λ r. behind_header (forward_bytes form epoch envelopes) (tested_number r)) (header_in-accepts Forward (forward_bytes form epoch envelopes) header is)
-    ∙ ap (λ b. behind_header (forward_bytes form epoch envelopes) (cond b (Err (TooMany (length envelopes))) (Ok header))) (no_test MOST_RECORDS (length envelopes) can.number)
+    ∙ ap (λ b. behind_header (forward_bytes form epoch envelopes) (cond b (Err (TooMany (length envelopes))) (Ok header))) (no_test 262144 (length envelopes) can.number)
     ∙ ap (λ ys. Ok (record { form = form; epoch = epoch; envelopes = ys })) (drop_at (header_bytes Forward header) joined (header_length form) front_size)
 
 -- what an answer of the reader says

@@ -9,7 +9,6 @@ use Rattle.esa_header.specs.declared.header.FileKind.TheVariants.{Forward}
 use Rattle.esa_header.specs.declared.header.Header.{Header}
 use Rattle.esa_header.specs.declared.header.HeaderRefused.{HeaderRefused}
 use Rattle.esa_header.specs.Header.{header_length, header_bytes, header_in}
-use Rattle.esa_threshold.specs.declared.forward.TheConstants.{MOST_RECORDS}
 use Rattle.esa_threshold.specs.declared.envelopes.Forwarded.{Forwarded}
 use Rattle.esa_threshold.specs.declared.refused.ForwardRefused.{ForwardRefused}
 use Rattle.esa_threshold.specs.declared.refused.ForwardRefused.TheVariants.{TooMany}
@@ -26,7 +25,7 @@ forward_bytes form epoch envelopes = forward_front form epoch (length envelopes)
 -- inner envelopes of the form, no more than a batch has, under an epoch that the form can have
 pub record CanForward (form : Form) (epoch : ℕ) (envelopes : List (List ℕ)) : Type 0 where
   pub lengths : HaveLength (inner_length form) envelopes
-  pub number : length envelopes ≤ MOST_RECORDS
+  pub number : length envelopes ≤ 262144
   pub epoch_fits : IsEpochOf form epoch
 
 -- a list of envelopes as it is read
@@ -42,7 +41,7 @@ IsForwardFile forwarded bytes = (envelopes : List (List ℕ)) × (CanForward for
 -- the last test: not more envelopes than a batch has
 abbrev pub tested_number : Result Header HeaderRefused → Result Header ForwardRefused
 tested_number (Err refused) = Err (refusal_of refused)
-tested_number (Ok header) = if nat_lt MOST_RECORDS header.count then Err (TooMany header.count) else Ok header
+tested_number (Ok header) = if nat_lt 262144 header.count then Err (TooMany header.count) else Ok header
 
 abbrev pub forward_header_in : List ℕ → Result Header ForwardRefused
 forward_header_in bytes = tested_number (header_in Forward bytes (length bytes))

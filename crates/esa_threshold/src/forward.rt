@@ -9,11 +9,8 @@ ghost use Rattle.esa_params.specs.declared.form.Form.{Form};
 
 use crate::{Envelopes, ForwardRefused, Forwarded};
 use esa_header::{FileKind, Header, put_header, read_header};
-use esa_params::Form;
+use esa_params::{Form, MOST_RECORDS};
 use std::alloc::Global;
-
-/// The most records of a batch, and so the most envelopes that are forwarded.
-pub const MOST_RECORDS: u32 = 262_144;
 
 /// The header of a forward file, or the first test that the file fails.
 fn tested_header(bytes: &[u8]) -> Result<Header, ForwardRefused>

@@ -9,7 +9,7 @@ mod forward;
 mod refused;
 
 pub use envelopes::{Envelopes, Forwarded};
-pub use forward::{MOST_RECORDS, forward_header, read_forward};
+pub use forward::{forward_header, read_forward};
 pub use refused::ForwardRefused;
 
 #[cfg(test)]

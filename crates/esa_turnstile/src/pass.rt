@@ -22,11 +22,14 @@ pub struct Pass<T> {
 }
 
 impl<T> Pass<T> {
-    ghost use Rattle.esa_turnstile.specs.Passes.{number_of};
+    ghost use Rattle.esa_turnstile.specs.Passes.{added_of, found_of, number_of, seen_of};
 
-    /// The number that the pass adds.
+    /// The number that the pass adds. The pass has seen it as often as it added it, and so it stands in what the pass
+    /// found, where it is inside.
     pub fn number(&self) -> u32
-        ensures { result ≡ number_of self.now }
+        ensures number { result ≡ number_of self.now }
+        ensures seen { times (number_of self.now) (seen_of self.now) ≡ added_of self.now }
+        ensures found { times (number_of self.now) (found_of self.now) ≡ added_of self.now }
     {
         self.number
     }

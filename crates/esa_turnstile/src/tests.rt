@@ -2,7 +2,7 @@ ghost use Rattle.std.specs.Prelude.{◌≡◌, ◌+◌, ◌*◌, ◌<◌, ◌≤
 ghost use Rattle.esa_turnstile.specs.Rolls.{entries_in, room_in};
 ghost use Rattle.esa_turnstile.specs.Passes.{passes_of, tickets_of, opened_of, IsPassOf, IsNewPass};
 
-use crate::{Logged, Opened, Roll, Turnstile, go_round, go_rounds, two_workers, workers};
+use crate::{Logged, Opened, Pass, Roll, Turnstile, go_round, go_rounds, two_workers, workers};
 use std::alloc::{AllocError, Global};
 use std::process::Abort;
 use std::test::Fail;
@@ -23,6 +23,27 @@ fn open(alloc: Global, passes: u32, tickets: u64) -> Result<Opened<Roll>, AllocE
 
 fn count(roll: &Roll, number: u32) -> usize {
     roll.entries().iter().filter(|x| **x == number).count()
+}
+
+// The value, which may go to another thread.
+fn sent<T: Send>(value: T) -> T
+    ensures { result ≡ value }
+{
+    value
+}
+
+// The value, which threads may share.
+fn shared<T: Sync>(value: T) -> T
+    ensures { result ≡ value }
+{
+    value
+}
+
+// Whatever the value is: threads share its turnstile and take its passes along, where it may go from one to another.
+fn crossed<T: Logged + Send>(turnstile: Turnstile<T>, pass: Pass<T>) -> (Turnstile<T>, Pass<T>)
+    ensures { result ≡ (turnstile, pass) }
+{
+    (shared(turnstile), sent(pass))
 }
 
 #[test]
@@ -62,7 +83,12 @@ fn one_pass_alone(rt: HostRuntime) -> Result<(), Fail> {
         turnstile,
         mut passes,
     } = open(rt.alloc(), 1, 3)?;
-    go_rounds(&rt, &turnstile, &mut passes[0], 3);
+    let Some(pass) = passes.pop() else {
+        return Err(Fail::from("one pass"));
+    };
+    let (turnstile, mut pass) = crossed(turnstile, pass);
+    go_rounds(&rt, &turnstile, &mut pass, 3);
+    passes.push_reserved(pass);
     let roll = turnstile.close(passes);
     assert!(rt; roll.entries() == [0, 0, 0].as_slice());
     Ok(())

@@ -1,5 +1,5 @@
 -- The latest write of a slot, when an access comes behind the others.
-use Rattle.std.proofs.Common.{◌≡◌, ◌≢◌, ℕ, zero, suc, ◌<◌, true, false, ◌&&◌, ◌==◌, List, [], ◌∷◌, ◌++◌, length, Option, Some, refl, sym, ap, ◌∙◌, arith, inl, inr}
+use Rattle.std.proofs.Common.{◌≡◌, ◌≢◌, ℕ, ◌<◌, ◌==◌, List, [], ◌∷◌, ◌++◌, length, Option, Some, sym, ap, ◌∙◌, arith, inl, inr}
 use Rattle.std.specs.Prelude.{find, slice_get, slice_set, if◌then◌else◌}
 use Rattle.std.proofs.lemmas.Bool.{cases_Bool}
 use Rattle.std.proofs.lemmas.Bool.Decides.{nat_tests}
@@ -10,49 +10,20 @@ use Rattle.esa_envelope.specs.Envelope.{sealed_as}
 use Rattle.esa_params.specs.Sizes.{Sizes}
 use Rattle.esa_params.specs.declared.slot.Access.{Access}
 use Rattle.esa_params.specs.declared.slot.Op.TheVariants.{Read, Write}
-use Rattle.esa_vault.specs.Latest.{AllHoldLatest, AllToldLatest, HoldsLatest, is_write, latest_write, slot_number, writes_to}
+use Rattle.esa_device.specs.Logs.{slot_number, writes_to}
+use Rattle.esa_device.proofs.LogLaws.{get-set_other, get-set_same, reads_nothing, writes_elsewhere, writes_here}
+use Rattle.esa_vault.specs.Latest.{AllHoldLatest, AllToldLatest, HoldsLatest, latest_write}
 
 -- by whether the last access writes the slot
 pub latest-push : (p : Sizes) (number : ℕ) (accesses : List Access) (access : Access)
     → latest_write p number (accesses ++ access ∷ []) ≡ (if writes_to p number access then Some access else latest_write p number accesses)
 latest-push p number accesses access = ap (find (writes_to p number)) (reverse-append accesses (access ∷ []))
 
--- a read writes no slot
-reads_nothing : (p : Sizes) (number : ℕ) (access : Access) → access.op ≡ Read → writes_to p number access ≡ false
-reads_nothing p number access reads = ap (λ op. is_write op && slot_number p access == number) reads
-
 pub latest-read : (p : Sizes) (number : ℕ) (accesses : List Access) (access : Access) → access.op ≡ Read
     → latest_write p number (accesses ++ access ∷ []) ≡ latest_write p number accesses
 latest-read p number accesses access reads =
     latest-push p number accesses access
     ∙ ap (λ writes. if writes then Some access else latest_write p number accesses) (reads_nothing p number access reads)
-
--- a write of another slot
-elsewhere : (p : Sizes) (number : ℕ) (access : Access) → number ≢ slot_number p access → writes_to p number access ≡ false
-elsewhere p number access other = elim (cases_Bool (is_write access.op)) [
-  | inl writes ↦ rw writes (grind (arith, nat_tests))
-  | inr reads ↦ rw reads refl
-]
-
--- a write of the slot
-here : (p : Sizes) (number : ℕ) (access : Access) → access.op ≡ Write → number ≡ slot_number p access → writes_to p number access ≡ true
-here p number access writes same =
-    ap (λ op. is_write op && slot_number p access == number) writes ∙ grind (arith, nat_tests)
-
-pub get-set_same : (blocks : List (List ℕ)) (number : ℕ) (bytes : List ℕ) → number < length blocks
-    → slice_get (slice_set blocks number bytes) number ≡ Some bytes
-get-set_same [] number bytes inside = absurd (omega arith)
-get-set_same (block ∷ blocks) zero bytes inside = refl
-get-set_same (block ∷ blocks) (suc number) bytes inside = get-set_same blocks number bytes (omega arith)
-
-pub get-set_other : (blocks : List (List ℕ)) (number other : ℕ) (bytes : List ℕ) → other ≢ number
-    → slice_get (slice_set blocks number bytes) other ≡ slice_get blocks other
-get-set_other [] number other bytes differs = refl
-get-set_other (block ∷ blocks) zero zero bytes differs = absurd (differs refl)
-get-set_other (block ∷ blocks) zero (suc other) bytes differs = refl
-get-set_other (block ∷ blocks) (suc number) zero bytes differs = refl
-get-set_other (block ∷ blocks) (suc number) (suc other) bytes differs =
-    get-set_other blocks number other bytes (λ same. differs (ap suc same))
 
 pub holds-read : (p : Sizes) (keys : Keys) (text : Access → List ℕ) (held : List (List ℕ)) (accesses : List Access) (access : Access)
     → access.op ≡ Read → AllHoldLatest p keys text held accesses → AllHoldLatest p keys text held (accesses ++ access ∷ [])
@@ -70,7 +41,7 @@ pub holds-other : (p : Sizes) (keys : Keys) (text : Access → List ℕ) (held :
 holds-other p keys text held accesses access number bytes other holds latest is =
     get-set_other held (slot_number p access) number bytes other
     ∙ holds latest (sym (latest-push p number accesses access
-    ∙ ap (λ writes. if writes then Some access else latest_write p number accesses) (elsewhere p number access other)) ∙ is)
+    ∙ ap (λ writes. if writes then Some access else latest_write p number accesses) (writes_elsewhere p number access other)) ∙ is)
 
 -- the write that is the latest is the one that came last
 same_access : (access latest : Access) → Some access ≡ Some latest → access ≡ latest
@@ -81,7 +52,7 @@ holds-here : (p : Sizes) (keys : Keys) (text : Access → List ℕ) (held : List
     → HoldsLatest p keys text (slice_set held (slot_number p access) (sealed_as keys Block access.nonce (text access))) (accesses ++ access ∷ []) number
 holds-here p keys text held accesses access number writes there same latest is =
     let last : access ≡ latest = same_access access latest (sym (latest-push p number accesses access
-    ∙ ap (λ does. if does then Some access else latest_write p number accesses) (here p number access writes same)) ∙ is) in
+    ∙ ap (λ does. if does then Some access else latest_write p number accesses) (writes_here p number access writes same)) ∙ is) in
     ap (λ n. slice_get (slice_set held (slot_number p access) (sealed_as keys Block access.nonce (text access))) n) same
     ∙ get-set_same held (slot_number p access) (sealed_as keys Block access.nonce (text access)) there
     ∙ ap (λ (access : Access). Some (sealed_as keys Block access.nonce (text access))) last

@@ -3,6 +3,9 @@ pub mod FilledLemmas
 pub mod GetLaws
 pub mod ItemLemmas
 pub mod LatestLaws
+pub mod NewItems
+pub mod NotedLaws
 pub mod SpelledLaws
 pub mod StoredLaws
 pub mod TextLaws
+pub mod WriteLaws

@@ -88,7 +88,7 @@ passes_each : (test : ℕ → Bool) (n : ℕ) → ((place : ℕ) → place < n �
 passes_each test n each = passes_all test n n (omega arith) (passes_upto test n n (omega arith) each)
 
 -- dummies are spelled
-dummy_spelled : (size : ℕ) → IsSpelled size dummy_item
+pub dummy_spelled : (size : ℕ) → IsSpelled size dummy_item
 unfolding zero_body
 dummy_spelled size = record {
   body = length-replicate {A = ℕ} 264 0;

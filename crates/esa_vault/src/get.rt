@@ -1,10 +1,10 @@
 //! Blocks read from the device.
 
-ghost use Rattle.std.specs.Prelude.{◌≡◌, ◌<◌, ℕ, true, List, Some, IsOk, length, slice_get, unwrap_or};
-ghost use Rattle.esa_params.specs.Slots.{IsPlanned, access_of, block_length, number_of, plain_length};
-ghost use Rattle.esa_params.specs.declared.slot.Op.{Op};
-ghost use Rattle.esa_vault.specs.Seals.{is_text_of, opens, sealed_block, text_in};
-ghost use Rattle.esa_vault.specs.Traffic.{OneMore, OnFault, OnGiven, ReadAnswer};
+ghost use Rattle.std.specs.Prelude.{◌≡◌, ◌<◌, ℕ, List, Some, length, slice_get};
+ghost use Rattle.esa_params.specs.Sizes.{ArePlanned};
+ghost use Rattle.esa_params.specs.Slots.{IsPlanned, block_length, number_of, plain_length};
+ghost use Rattle.esa_vault.specs.Seals.{opens};
+ghost use Rattle.esa_vault.specs.Traffic.{GivesLatest, GivesTold, IsOpenedTo, IsRead, OnGiven};
 
 use crate::block::open_block;
 use crate::fault::VaultFault;
@@ -31,24 +31,13 @@ pub fn get_block<V: Device>(
     requires room { 0 < recorder.old.room }
     requires sealed { length sealed.old ≡ block_length plan.now slot }
     requires plain { length plain.old ≡ plain_length plan.now slot.region slot.index }
-    ensures recorded { OneMore recorder.old recorder.new (access_of plan.now attempt Op.Read slot) }
-    ensures told { V.told recorder.new.device ≡ V.told recorder.old.device }
-    ensures answer { ReadAnswer (number_of plan.now slot) (V.faults recorder.old.device) (V.faults recorder.new.device)
-        (opens plan.now keys.now slot attempt count recorder.new.last) result }
-    ensures given { OnGiven result (recorder.new.last ≡ sealed.new) }
-    ensures text { OnGiven result (plain.new ≡ unwrap_or (text_in plan.now keys.now slot attempt sealed.new) plain.old) }
-    ensures fault { OnFault result ((recorder.new.last ≡ recorder.old.last) × (plain.new ≡ plain.old)) }
+    ensures read { IsRead V.told V.faults V.last_call plan.now slot attempt (opens plan.now keys.now slot attempt count) sealed.new recorder.old recorder.new result }
+    ensures opened { IsOpenedTo plan.now keys.now slot attempt sealed.new plain.old plain.new result }
 
-    // Over a device that tells, it gives what the slot holds, and the text that was sealed there. Where that is one of
-    // so many items, it is taken.
-    ensures bytes { (blocks : List (List ℕ)) → V.told recorder.old.device ≡ Some blocks
-        → OnGiven result (slice_get blocks (number_of plan.now slot) ≡ Some sealed.new) }
-    ensures sealed { (blocks : List (List ℕ)) (text : List ℕ) → V.told recorder.old.device ≡ Some blocks
-        → slice_get blocks (number_of plan.now slot) ≡ Some (sealed_block plan.now keys.now slot attempt text)
-        → OnGiven result (plain.new ≡ text) }
-    ensures taken { (blocks : List (List ℕ)) (text : List ℕ) → V.told recorder.old.device ≡ Some blocks
-        → slice_get blocks (number_of plan.now slot) ≡ Some (sealed_block plan.now keys.now slot attempt text)
-        → is_text_of plan.now slot.region count text ≡ true → OnGiven result (IsOk result) }
+    // Where the log is faithful, the text is the one that was sealed last for the slot. So it is over a device that
+    // tells, which gives what the slot holds.
+    ensures latest { GivesLatest plan.now keys.now slot attempt count plain.new recorder.old recorder.new result }
+    ensures told { GivesTold plan.now keys.now slot attempt count sealed.new plain.new (V.told recorder.old.device) result }
 {
     get_block_with(
         recorder,
@@ -78,24 +67,38 @@ pub fn get_block_with<V: Device>(
     requires room { 0 < recorder.old.room }
     requires sealed { length sealed.old ≡ block_length plan.now slot }
     requires plain { length plain.old ≡ plain_length plan.now slot.region slot.index }
-    ensures recorded { OneMore recorder.old recorder.new (access_of plan.now attempt Op.Read slot) }
-    ensures told { V.told recorder.new.device ≡ V.told recorder.old.device }
-    ensures answer { ReadAnswer (number_of plan.now slot) (V.faults recorder.old.device) (V.faults recorder.new.device)
-        (opens plan.now keys.now slot attempt count recorder.new.last) result }
-    ensures given { OnGiven result (recorder.new.last ≡ sealed.new) }
-    ensures text { OnGiven result (plain.new ≡ unwrap_or (text_in plan.now keys.now slot attempt sealed.new) plain.old) }
-    ensures fault { OnFault result ((recorder.new.last ≡ recorder.old.last) × (plain.new ≡ plain.old)) }
+    ensures read { IsRead V.told V.faults V.last_call plan.now slot attempt (opens plan.now keys.now slot attempt count) sealed.new recorder.old recorder.new result }
+    ensures opened { IsOpenedTo plan.now keys.now slot attempt sealed.new plain.old plain.new result }
 
-    // Over a device that tells, it gives what the slot holds, and the text that was sealed there. Where that is one of
-    // so many items, it is taken.
+    // Where the log is faithful, the text is the one that was sealed last for the slot. So it is over a device that
+    // tells, which gives what the slot holds.
+    ensures latest { GivesLatest plan.now keys.now slot attempt count plain.new recorder.old recorder.new result }
+    ensures told { GivesTold plan.now keys.now slot attempt count sealed.new plain.new (V.told recorder.old.device) result }
+{
+    read_and_open(recorder, plan, keys, slot, attempt, count, sealed, plain)
+}
+
+/// Reads a block and opens it, whatever was written before.
+fn read_and_open<V: Device>(
+    recorder: &mut Recorder<V>,
+    plan: &Plan,
+    keys: &Prepared,
+    slot: Slot,
+    attempt: u32,
+    count: u32,
+    sealed: &mut [u8],
+    plain: &mut [u8],
+) -> Result<(), VaultFault>
+    requires planned { IsPlanned plan.now slot }
+    requires ready { recorder.old.plan ≡ Some plan.now }
+    requires room { 0 < recorder.old.room }
+    requires sealed { length sealed.old ≡ block_length plan.now slot }
+    requires plain { length plain.old ≡ plain_length plan.now slot.region slot.index }
+    ensures read { IsRead V.told V.faults V.last_call plan.now slot attempt (opens plan.now keys.now slot attempt count) sealed.new recorder.old recorder.new result }
+    ensures opened { IsOpenedTo plan.now keys.now slot attempt sealed.new plain.old plain.new result }
     ensures bytes { (blocks : List (List ℕ)) → V.told recorder.old.device ≡ Some blocks
         → OnGiven result (slice_get blocks (number_of plan.now slot) ≡ Some sealed.new) }
-    ensures sealed { (blocks : List (List ℕ)) (text : List ℕ) → V.told recorder.old.device ≡ Some blocks
-        → slice_get blocks (number_of plan.now slot) ≡ Some (sealed_block plan.now keys.now slot attempt text)
-        → OnGiven result (plain.new ≡ text) }
-    ensures taken { (blocks : List (List ℕ)) (text : List ℕ) → V.told recorder.old.device ≡ Some blocks
-        → slice_get blocks (number_of plan.now slot) ≡ Some (sealed_block plan.now keys.now slot attempt text)
-        → is_text_of plan.now slot.region count text ≡ true → OnGiven result (IsOk result) }
+    ensures limits { OnGiven result (ArePlanned plan.now) }
 {
     let access = plan.access(attempt, Op::Read, slot);
     if recorder.read(access, sealed).is_err() {

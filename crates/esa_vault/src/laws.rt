@@ -2,12 +2,14 @@
 //!
 //! The functions do nothing when they run. They are there so that each law is proved where a contract names it.
 
-ghost use Rattle.std.specs.Prelude.{◌≡◌, ◌≢◌, ℕ, ◌+◌, ◌*◌, ◌/◌, ◌^◌, ◌<◌, ◌≤◌, true, false, Some, Option, Result, OnOk, All, List, [], ◌∷◌, ◌++◌, length, replicate, slice_get, slice_set, if◌then◌else◌};
+ghost use Rattle.std.specs.Prelude.{◌≡◌, ◌≢◌, ℕ, ◌+◌, ◌*◌, ◌/◌, ◌^◌, ◌<◌, ◌≤◌, true, false, Some, None, Option, Result, OnOk, OnErr, All, Contains, is_some, List, [], ◌∷◌, ◌++◌, length, replicate, slice_get, slice_set, if◌then◌else◌};
 ghost use Rattle.esa_envelope.specs.Envelope.{nonce_in, sealed_as};
 ghost use Rattle.esa_envelope.specs.declared.keys.Keys.{Keys};
 ghost use Rattle.esa_envelope.specs.declared.label.Label.{Label};
+ghost use Rattle.esa_params.specs.Form.{envelope_length};
 ghost use Rattle.esa_params.specs.Sizes.{Sizes, ArePlanned};
-ghost use Rattle.esa_params.specs.Slots.{IsPlanned, access_of, nonce_of, number_of, slots_of};
+ghost use Rattle.esa_params.specs.declared.form.Form.{Form};
+ghost use Rattle.esa_params.specs.Slots.{IsPlanned, access_of, item_length, nonce_of, number_of, slots_of};
 ghost use Rattle.esa_params.specs.declared.slot.Access.{Access};
 ghost use Rattle.esa_params.specs.declared.slot.Op.{Op};
 ghost use Rattle.esa_params.specs.declared.slot.Region.{Region};
@@ -16,7 +18,9 @@ ghost use Rattle.esa_report.specs.declared.item.Item.{Item};
 ghost use Rattle.esa_report.specs.Item.{IsItemLength, dummy_item, item_in, kind_held};
 ghost use Rattle.esa_vault.specs.Seals.{is_text_of, opens, sealed_block, text_in};
 ghost use Rattle.esa_vault.specs.Filled.{bytes_at, is_filled, suits, text_of};
-ghost use Rattle.esa_vault.specs.Latest.{AllHoldLatest, AllToldLatest, HoldsLatest, ToldLatest, latest_write, slot_number, writes_to};
+ghost use Rattle.esa_vault.specs.Items.{item_of};
+ghost use Rattle.esa_vault.specs.Latest.{AllHoldLatest, AllToldLatest, AllTookLatest, HoldsLatest, ToldLatest, TookLatest, accesses_of, latest_write};
+ghost use Rattle.esa_device.specs.Logs.{Carried, HoldsWritten, Took, carried_by, slot_number, writes_to};
 ghost use Rattle.esa_vault.specs.Traffic.{Stores};
 ghost use Rattle.esa_vault.specs.declared.fault.VaultFault.{VaultFault};
 ghost use Rattle.esa_vault.specs.Placed.{IsHeld, IsSpelled};
@@ -68,6 +72,63 @@ pub fn each_place_suits()
 pub fn held_items_are_spelled()
     ensures { (size place : ℕ) (text : List ℕ) (item : Item) → IsItemLength size → place * size + size ≤ length text
         → item_in (bytes_at size text place) ≡ Some item → IsSpelled size item }
+{}
+
+/// Dummies can stand in a block, and so can the item of each envelope, which is no dummy.
+pub fn new_items_are_spelled()
+    ensures dummy { (size : ℕ) → IsItemLength size → IsSpelled size dummy_item }
+    ensures spelled { (outer : Keys) (form : Form) (envelope : List ℕ) → length envelope ≡ envelope_length form
+        → IsSpelled (item_length form) (item_of outer envelope) }
+    ensures held { (outer : Keys) (envelope : List ℕ) → IsHeld (item_of outer envelope) }
+{}
+
+/// The latest write of a slot is one of the accesses, writes, and names the slot. In a list with others behind it is
+/// the latest of these, if one of them writes the slot.
+pub fn latest_writes()
+    ensures stands { (p : Sizes) (number : ℕ) (accesses : List Access) (access : Access) → latest_write p number accesses ≡ Some access
+        → Contains accesses access }
+    ensures writes { (p : Sizes) (number : ℕ) (accesses : List Access) (access : Access) → latest_write p number accesses ≡ Some access
+        → access.op ≡ Op.Write }
+    ensures names { (p : Sizes) (number : ℕ) (accesses : List Access) (access : Access) → latest_write p number accesses ≡ Some access
+        → slot_number p access ≡ number }
+    ensures longer { (p : Sizes) (number : ℕ) (accesses more : List Access) → latest_write p number (accesses ++ more)
+        ≡ (if is_some (latest_write p number more) then latest_write p number more else latest_write p number accesses) }
+{}
+
+/// Before any access no slot must have a seal in the log, and a read changes nothing of what they must.
+pub fn one_read_noted()
+    ensures nothing { (p : Sizes) (keys : Keys) (text : Access → List ℕ) (but : Option ℕ) → AllTookLatest p keys text [] but }
+    ensures took { (p : Sizes) (keys : Keys) (text : Access → List ℕ) (log : List Carried) (last : Carried) (number : ℕ) → last.access.op ≡ Op.Read
+        → TookLatest p keys text log number → TookLatest p keys text (log ++ last ∷ []) number }
+    ensures all { (p : Sizes) (keys : Keys) (text : Access → List ℕ) (log : List Carried) (last : Carried) (but : Option ℕ) → last.access.op ≡ Op.Read
+        → AllTookLatest p keys text log but → AllTookLatest p keys text (log ++ last ∷ []) but }
+{}
+
+/// A block that was put is noted as the latest of its slot. Where the put failed, so it is with every slot but its own.
+pub fn one_put_noted()
+    ensures stored { (p : Sizes) (keys : Keys) (text : Access → List ℕ) (log : List Carried) (slot : Slot) (attempt : ℕ) (result : Result (Unit {0}) VaultFault)
+        → AllTookLatest p keys text log None
+        → OnOk result (AllTookLatest p keys text (log ++ carried_by (access_of p attempt Op.Write slot) result (sealed_block p keys slot attempt (text (access_of p attempt Op.Write slot))) ∷ []) None) }
+    ensures failed { (p : Sizes) (keys : Keys) (text : Access → List ℕ) (log : List Carried) (slot : Slot) (attempt : ℕ) (bytes : List ℕ) (result : Result (Unit {0}) VaultFault)
+        → AllTookLatest p keys text log None
+        → AllTookLatest p keys text (log ++ carried_by (access_of p attempt Op.Write slot) result bytes ∷ []) (Some (number_of p slot)) }
+{}
+
+/// What the latest writes took is a matter of their own texts alone.
+pub fn texts_that_agree()
+    ensures { (p : Sizes) (keys : Keys) (text other : Access → List ℕ) (log : List Carried) (but : Option ℕ)
+        → ((number : ℕ) (access : Access) → latest_write p number (accesses_of log) ≡ Some access → text access ≡ other access)
+        → AllTookLatest p keys text log but → AllTookLatest p keys other log but }
+{}
+
+/// The latest write that has the nonce of its slot in an attempt took the block that was sealed for them. Over a device
+/// that tells, it stands in the slot.
+pub fn latest_seal()
+    ensures took { (p : Sizes) (keys : Keys) (text : Access → List ℕ) (log : List Carried) (access : Access) (slot : Slot) (attempt : ℕ)
+        → TookLatest p keys text log (number_of p slot) → latest_write p (number_of p slot) (accesses_of log) ≡ Some access
+        → access.nonce ≡ nonce_of p attempt slot → Took p (number_of p slot) (sealed_block p keys slot attempt (text access)) log }
+    ensures holds { (p : Sizes) (keys : Keys) (text : Access → List ℕ) (log : List Carried) (held : List (List ℕ)) (number : ℕ)
+        → TookLatest p keys text log number → HoldsWritten p held log → HoldsLatest p keys text held (accesses_of log) number }
 {}
 
 /// Before any access no slot must hold a seal.

@@ -2,10 +2,9 @@
 
 ghost use Rattle.std.specs.Prelude.{◌≡◌, ◌<◌, Some, length};
 ghost use Rattle.esa_envelope.specs.Envelope.{nonce_in};
-ghost use Rattle.esa_params.specs.Slots.{IsPlanned, access_of, block_length, nonce_of, number_of, plain_length};
-ghost use Rattle.esa_params.specs.declared.slot.Op.{Op};
+ghost use Rattle.esa_params.specs.Slots.{IsPlanned, block_length, nonce_of, plain_length};
 ghost use Rattle.esa_vault.specs.Seals.{sealed_block};
-ghost use Rattle.esa_vault.specs.Traffic.{OneMore, Stores, WriteAnswer};
+ghost use Rattle.esa_vault.specs.Traffic.{IsWritten};
 
 use crate::block::seal_block_with;
 use crate::fault::VaultFault;
@@ -13,7 +12,8 @@ use esa_device::{Device, Recorder};
 use esa_envelope::{Keys, Prepared, prepare};
 use esa_params::{Op, Plan, Slot};
 
-/// Writes a block that was sealed for its slot and attempt. It fails only where the device's count of faults rose.
+/// Writes a block that was sealed for its slot and attempt. It fails only where the device's count of faults rose. The
+/// log has the block, or that the access failed.
 pub fn write_block<V: Device>(
     recorder: &mut Recorder<V>,
     plan: &Plan,
@@ -26,10 +26,7 @@ pub fn write_block<V: Device>(
     requires room { 0 < recorder.old.room }
     requires sealed { length sealed.now ≡ block_length plan.now slot }
     requires nonce { nonce_in sealed.now ≡ nonce_of plan.now attempt slot }
-    ensures recorded { OneMore recorder.old recorder.new (access_of plan.now attempt Op.Write slot) }
-    ensures stored { Stores (V.told recorder.old.device) (V.told recorder.new.device) (number_of plan.now slot) sealed.now result }
-    ensures last { recorder.new.last ≡ recorder.old.last }
-    ensures answer { WriteAnswer (number_of plan.now slot) (V.faults recorder.old.device) (V.faults recorder.new.device) result }
+    ensures { IsWritten V.told V.faults V.last_call plan.now slot attempt sealed.now recorder.old recorder.new result }
 {
     let access = plan.access(attempt, Op::Write, slot);
     match recorder.write(access, sealed) {
@@ -55,10 +52,7 @@ pub fn put_block<V: Device>(
     requires plain { length plain.now ≡ plain_length plan.now slot.region slot.index }
     requires sealed { length sealed.old ≡ block_length plan.now slot }
     ensures sealed { sealed.new ≡ sealed_block plan.now keys.now slot attempt plain.now }
-    ensures recorded { OneMore recorder.old recorder.new (access_of plan.now attempt Op.Write slot) }
-    ensures stored { Stores (V.told recorder.old.device) (V.told recorder.new.device) (number_of plan.now slot) sealed.new result }
-    ensures last { recorder.new.last ≡ recorder.old.last }
-    ensures answer { WriteAnswer (number_of plan.now slot) (V.faults recorder.old.device) (V.faults recorder.new.device) result }
+    ensures written { IsWritten V.told V.faults V.last_call plan.now slot attempt sealed.new recorder.old recorder.new result }
 {
     put_block_with(recorder, plan, &prepare(keys), slot, attempt, plain, sealed)
 }
@@ -79,10 +73,7 @@ pub fn put_block_with<V: Device>(
     requires plain { length plain.now ≡ plain_length plan.now slot.region slot.index }
     requires sealed { length sealed.old ≡ block_length plan.now slot }
     ensures sealed { sealed.new ≡ sealed_block plan.now keys.now slot attempt plain.now }
-    ensures recorded { OneMore recorder.old recorder.new (access_of plan.now attempt Op.Write slot) }
-    ensures stored { Stores (V.told recorder.old.device) (V.told recorder.new.device) (number_of plan.now slot) sealed.new result }
-    ensures last { recorder.new.last ≡ recorder.old.last }
-    ensures answer { WriteAnswer (number_of plan.now slot) (V.faults recorder.old.device) (V.faults recorder.new.device) result }
+    ensures written { IsWritten V.told V.faults V.last_call plan.now slot attempt sealed.new recorder.old recorder.new result }
 {
     seal_block_with(plan, keys, slot, attempt, plain, sealed);
     write_block(recorder, plan, slot, attempt, sealed)

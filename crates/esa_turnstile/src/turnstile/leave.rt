@@ -1,5 +1,6 @@
 //! How a pass gets out.
 ghost use Rattle.std.specs.Prelude.{◌≡◌, ◌+◌, ◌≤◌, [], ◌∷◌, ◌++◌, length, true, None};
+ghost use Rattle.esa_turnstile.specs.Entries.{times};
 ghost use Rattle.esa_turnstile.specs.Views.{gone, first_number, is_inside, latest};
 ghost use Rattle.esa_turnstile.specs.Steps.{sight_of};
 ghost use Rattle.esa_turnstile.specs.Passes.{opened_of, IsSeatOf, IsSameSeat, IsPassOf, IsOutside, IsInside, number_of, seen_of, mark_of, added_of, left_of, found_of, found_mark_of};
@@ -21,6 +22,7 @@ impl<T: Logged> Turnstile<T> {
         ensures pass { IsPassOf self.now pass.new × (number_of pass.new ≡ number_of pass.old) }
         ensures outside { IsOutside pass.new }
         ensures seen { (seen_of pass.new ≡ T.log held.value) × (mark_of pass.new ≡ T.mark held.value) }
+        ensures own { times (number_of pass.new) (seen_of pass.new) ≡ added_of pass.new }
         ensures counts { (added_of pass.new ≡ added_of pass.old + 1) × (left_of pass.new + 1 ≡ left_of pass.old) }
     {
         let Held { value } = held;

@@ -1,7 +1,9 @@
 use Rattle.std.proofs.Common.{◌≡◌, ◌≤◌, ℕ, List, ◌++◌, Option, length}
 use Rattle.std.specs.Prelude.{All}
 use Rattle.esa_lists.specs.Files.{Files}
+use Rattle.esa_outside.specs.Heard.{Event}
 use Rattle.esa_page.specs.Underway.{IsUnderway}
+use Rattle.esa_page.specs.Writing.{IsWriting}
 use Rattle.esa_analyser.specs.SortKey.{IsSortKey}
 use Rattle.esa_analyser.specs.RunBytes.{run_bytes}
 use Rattle.esa_analyser.proofs.keys.put_runs.Given as goal
@@ -12,7 +14,9 @@ invariant-loop-rest g l = record {
   few : length l.rest ≤ length l.keys;
   so_far : (done : List ℕ) × (run_bytes l.keys ≡ done ++ run_bytes l.rest)
       × ((before : Option Files) (text : List ℕ) → IsUnderway before l.name text l.initial.page (g.K.Cabinet.told l.initial.cabinet)
-      → IsUnderway before l.name (text ++ done) l.page (g.K.Cabinet.told l.cabinet) × (g.K.Cabinet.faults l.cabinet ≡ g.K.Cabinet.faults l.initial.cabinet));
+      → IsUnderway before l.name (text ++ done) l.page (g.K.Cabinet.told l.cabinet) × (g.K.Cabinet.faults l.cabinet ≡ g.K.Cabinet.faults l.initial.cabinet))
+      × ((before : List Event) (text : List ℕ) → IsWriting before l.name text l.initial.page (g.K.Cabinet.heard l.initial.cabinet)
+      → IsWriting before l.name (text ++ done) l.page (g.K.Cabinet.heard l.cabinet));
 }
 
 abbrev pub decreases-loop-rest : goal.decreases-loop-rest

@@ -1,6 +1,5 @@
 use Rattle.std.proofs.Common.{◌≡◌, length, ◌+◌, ◌≤◌}
 use Rattle.esa_bytes.specs.Lines.{text_lines}
-use Rattle.esa_batcher.specs.declared.batch.TheConstants.{MOST_RECORDS}
 use Rattle.esa_batcher.specs.Submitted.{joined_to, lines_in}
 use Rattle.esa_batcher.proofs.lines.add_lines.Given as goal
 
@@ -8,7 +7,7 @@ abbrev pub invariant-loop-line : goal.invariant-loop-line
 invariant-loop-line l = record {
   few : l.number + length l.rest ≤ length l.submissions;
   form : l.batcher.form ≡ l.initial.batcher.form;
-  room : length l.batcher.list + length (text_lines l.rest) ≤ MOST_RECORDS;
+  room : length l.batcher.list + length (text_lines l.rest) ≤ 262144;
   lines : joined_to l.initial.batcher.list (lines_in l.initial.batcher.form 1 (text_lines l.submissions))
       ≡ joined_to l.batcher.list (lines_in l.initial.batcher.form (l.number + 1) (text_lines l.rest));
 }

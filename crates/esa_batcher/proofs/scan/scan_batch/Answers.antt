@@ -12,7 +12,7 @@ returns-in_err-check_number-in-None-clause-scanned g c = λ files bytes told the
     let have_is = have_of _ bytes c.in_ok-have.have there (c.in_ok-have.ensures.length files told) in
     let read = c.in_ok-header.ensures.header files bytes (c.length.ensures.told ∙ told) there have_is in
     let rise = sym c.in-None.is ∙ c.in_ok-place.ensures.order _ (records_are (g.K.Cabinet.told c.scan_header.new.cabinet) files c.args.name.now bytes (header_length header.form) (envelope_length header.form) header.count (c.scan_header.ensures.told ∙ c.length.ensures.told ∙ told) there) in
-    rw (p.1, p.2) (inr (sym (scan_by_number c.args.m c.in_ok-have.have bytes header have_is (omega (arith, c.if-have-gt-MOST_BYTES.false)) read rise _ c.in_err-check_number-in-None.ensures)))
+    rw (p.1, p.2) (inr (sym (scan_by_number c.args.m c.in_ok-have.have bytes header have_is (omega (arith, c.if-have-gt-MOST_RECORD_BYTES.false)) read rise _ c.in_err-check_number-in-None.ensures)))
 
 pub returns-clause-scanned : goal.returns-clause-scanned
 returns-clause-scanned g c = λ files bytes told there.
@@ -20,4 +20,4 @@ returns-clause-scanned g c = λ files bytes told there.
     let have_is = have_of _ bytes c.in_ok-have.have there (c.in_ok-have.ensures.length files told) in
     let read = c.in_ok-header.ensures.header files bytes (c.length.ensures.told ∙ told) there have_is in
     let rise = sym c.in-None.is ∙ c.in_ok-place.ensures.order _ (records_are (g.K.Cabinet.told c.scan_header.new.cabinet) files c.args.name.now bytes (header_length header.form) (envelope_length header.form) header.count (c.scan_header.ensures.told ∙ c.length.ensures.told ∙ told) there) in
-    inr (sym (scan_by_number c.args.m c.in_ok-have.have bytes header have_is (omega (arith, c.if-have-gt-MOST_BYTES.false)) read rise _ c.in_ok-check_number-in-None.ensures ∙ scanned_count bytes header))
+    inr (sym (scan_by_number c.args.m c.in_ok-have.have bytes header have_is (omega (arith, c.if-have-gt-MOST_RECORD_BYTES.false)) read rise _ c.in_ok-check_number-in-None.ensures ∙ scanned_count bytes header))

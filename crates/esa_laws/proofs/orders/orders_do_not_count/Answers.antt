@@ -11,7 +11,7 @@ pub returns-clause-completion : goal.returns-clause-completion
 returns-clause-completion c = full-targets
 
 pub returns-clause-attempt : goal.returns-clause-attempt
-returns-clause-attempt c = attempt-targets
+returns-clause-attempt c = λ p d e same a h. attempt-targets p d e same h a
 
 pub returns-clause-trace : goal.returns-clause-trace
 returns-clause-trace c = trace-targets

@@ -1,6 +1,7 @@
 use Rattle.std.proofs.Common.{subst, arith}
 use Rattle.std.specs.Prelude.{OnOk, OnErr}
 use Rattle.esa_page.specs.Underway.{IsWhole, IsLeft}
+use Rattle.esa_page.specs.Writing.{HasWritten, HasBroken}
 use Rattle.esa_analyser.specs.Counted.{Counted}
 use Rattle.esa_analyser.specs.Kept.{keys_of, form_of}
 use Rattle.esa_analyser.specs.Rows.{IsDatabase}
@@ -28,6 +29,16 @@ returns-clause-failed g c =
 
 pub returns-clause-silent : goal.returns-clause-silent
 returns-clause-silent g c = silent-still c.write_kept.result (g.K.Cabinet.told c.args.cabinet.now) c.args.name.now _ (g.K.Cabinet.told c.write_kept.new.cabinet) c.write_kept.ensures.whole c.write_kept.ensures.left
+
+pub returns-clause-heard : goal.returns-clause-heard
+returns-clause-heard g c =
+    let file = kept_file c.self.inside c.args.self.now c.unopened.result c.self.view_is c.unopened.ensures in
+    subst (λ text. OnOk c.write_kept.result (HasWritten (g.K.Cabinet.heard c.args.cabinet.now) c.args.name.now text (g.K.Cabinet.heard c.write_kept.new.cabinet))) file c.write_kept.ensures.heard
+
+pub returns-clause-heard_broken : goal.returns-clause-heard_broken
+returns-clause-heard_broken g c =
+    let file = kept_file c.self.inside c.args.self.now c.unopened.result c.self.view_is c.unopened.ensures in
+    subst (λ text. OnErr c.write_kept.result (HasBroken (g.K.Cabinet.heard c.args.cabinet.now) c.args.name.now text (g.K.Cabinet.heard c.write_kept.new.cabinet))) file c.write_kept.ensures.heard_broken
 
 pub returns-clause-readable : goal.returns-clause-readable
 returns-clause-readable g c =

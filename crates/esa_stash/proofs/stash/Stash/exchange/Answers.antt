@@ -1,13 +1,13 @@
-use Rattle.std.proofs.Common.{◌≡◌, ℕ, ◌*◌, ◌≤◌, length, get_or, map, sum_by, List, [], ◌∷◌, ◌++◌, ap, ap₂, sym, subst, refl, ◌∙◌, arith}
+use Rattle.std.proofs.Common.{◌≡◌, ℕ, ◌*◌, ◌≤◌, ◌<◌, length, get_or, map, sum_by, List, [], ◌∷◌, ◌++◌, ap, ap₂, sym, subst, refl, ◌∙◌, arith}
 use Rattle.std.proofs.lemmas.Bool.{false≢true}
 use Rattle.std.proofs.lemmas.List.{length-map}
 use Rattle.std.proofs.lemmas.List.FromFn.{get_or-map-range_with_len, length-map-range_with_len}
 use Rattle.esa_stash.specs.Sizes.{below}
 use Rattle.esa_report.specs.declared.item.Item.{Item}
 use Rattle.esa_stash.specs.Arena.{items_in}
-use Rattle.esa_stash.specs.Stash.{Stashed, Held, Handed, contents, total, exchanged, chunks, counts}
+use Rattle.esa_stash.specs.Stash.{Stashed, Held, Handed, contents, total, exchanged, chunks, counts, padded_chunk}
 use Rattle.esa_stash.specs.Since.{IsSince, total_backlog}
-use Rattle.esa_stash.specs.Dealing.{left_of, left_after, line_after, arrivals, AreDealt}
+use Rattle.esa_stash.specs.Dealing.{left_of, left_after, line_after, arrivals, AreDealt, chunk_at}
 use Rattle.esa_stash.proofs.TotalLemmas.{arrivals-le}
 use Rattle.esa_stash.proofs.Exchanging.{seen, IsSince-more, chunks_are, counts_are, total_is, total_of_lines, total_of_lengths, total_bounded, queues_left, chunks_left, counts_left}
 use Rattle.esa_stash.proofs.stash.Stash.exchange.Goals as goal
@@ -147,6 +147,12 @@ module _ (c : After-deal) (targets : length c.args.counts.now ≡ c.self.inside.
       chunks_left c.self.inside.cells c.self.inside.chunk c.self.inside.targets c.args.targets.now c.args.items.now c.self.invariant.0 c.requires.target_each c.deal.new.cells c.deal.new.chunks c.deal.new.counts long count_each chains dealt
       ∙ ap (λ (stash : Stashed). chunks (contents stash) (c.args.targets.now, c.args.items.now)) c.self.view_is
 
+  chunk_each : (i : ℕ) → i < length (contents c.args.self.now).queues
+      → chunk_at c.args.self.now.c c.deal.new.chunks i ≡ padded_chunk (contents c.args.self.now) (c.args.targets.now, c.args.items.now) i
+  chunk_each =
+      subst (λ (stash : Stashed). (i : ℕ) → i < length (contents stash).queues → chunk_at stash.c c.deal.new.chunks i ≡ padded_chunk (contents stash) (c.args.targets.now, c.args.items.now) i) c.self.view_is
+      (λ i inside. let many = length-map c.self.inside.cells.chains items_in ∙ c.self.invariant.0 in (dealt i (omega (arith, many, inside))).chunk)
+
   counts_after : c.deal.new.counts ≡ counts (contents c.args.self.now) (c.args.targets.now, c.args.items.now)
   counts_after =
       counts_left c.self.inside.cells c.self.inside.chunk c.self.inside.targets c.args.targets.now c.args.items.now c.self.invariant.0 c.requires.target_each c.deal.new.cells c.deal.new.chunks c.deal.new.counts long count_each chains dealt
@@ -161,6 +167,11 @@ pub returns-clause-chunks : goal.returns-clause-chunks
 returns-clause-chunks c =
     let at = goal.at.returns-clause-chunks c in
     chunks_after at.After-deal (targets_are at.After-total_after-total)
+
+pub returns-clause-each : goal.returns-clause-each
+returns-clause-each c =
+    let at = goal.at.returns-clause-each c in
+    chunk_each at.After-deal (targets_are at.After-total_after-total)
 
 pub returns-clause-counts : goal.returns-clause-counts
 returns-clause-counts c =

@@ -1,0 +1,17 @@
+//! Secret shares of values, after Shamir: a value that opens only where enough of its shares came in.
+//!
+//! The bytes of a secret are the constants of polynomials over the field of 256 elements. Shares at as many points as a
+//! polynomial has coefficients give the secret back, whichever points they are: that is a clause of [`recover`]. Shares
+//! at fewer points fit every secret of their length: [`explain`] gives the coefficients that say so. That the elements
+//! are a field is proved from the product of polynomials. The crate stands on `esa_params`.
+#![tactic(auto)]
+
+mod field;
+mod newton;
+mod polynomial;
+#[cfg(test)]
+mod tests;
+
+pub use field::{inverse, mul};
+pub use newton::explain;
+pub use polynomial::{evaluate, recover};
