@@ -41,7 +41,7 @@ def main():
     targets, times = [], {}
     with tempfile.TemporaryDirectory() as folder:
         ordinary = os.path.join(folder, "ordinary")
-        subprocess.run(["rustc", "--edition", "2021", "-C", "opt-level=3", "-o", ordinary, os.path.join(HERE, "ordinary.rs")], check=True)
+        subprocess.run(["rustc", "--edition", "2021", "-C", "opt-level=3", "-C", "target-cpu=x86-64-v2", "-o", ordinary, os.path.join(HERE, "ordinary.rs")], check=True)
         print(f"{'command':>8} {'records':>8} {'seconds':>8} {'of ordinary':>11} {'instructions':>12} {'of ordinary':>11} {'peak, of ordinary':>17}", flush=True)
         for size in SIZES:
             for command, pair in commands(esa, ordinary, folder, size):

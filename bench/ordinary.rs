@@ -1,7 +1,7 @@
 //! gen, encode, batch and analyse as ordinary Rust, to compare esa with: file to file, with std alone.
 //!
 //! What it is: plain code as a Rust programmer writes it, on `fs::read`, iterators over lines of text, `Vec`, `sort_unstable`,
-//! `BTreeMap` and `BufWriter`, compiled with optimisation for the same processors as esa, which is any x86-64. SHA-256
+//! `BTreeMap` and `BufWriter`, compiled with optimisation for the same processors as esa, x86-64-v2. SHA-256
 //! and ChaCha20 are scalar code with a state in registers, as the usual crates are on a processor without instructions
 //! for them; keys are prepared once. What it isn't: the `sha2`, `chacha20` and `hex` crates themselves, which need a
 //! registry, and esa's proofs. It takes form One
