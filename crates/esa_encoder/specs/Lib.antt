@@ -3,3 +3,4 @@ pub mod Encoded
 pub mod Line
 pub mod Report
 pub mod Sealed
+pub mod Shaped
