@@ -3,3 +3,4 @@ pub mod Encoded
 pub use Rattle.esa_line.specs.Line
 pub mod Report
 pub mod Sealed
+pub mod Shaped

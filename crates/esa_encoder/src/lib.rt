@@ -8,9 +8,11 @@
 mod nonces;
 mod report;
 mod seal;
+mod shape;
 mod submission;
 #[cfg(test)]
 mod tests;
 
 pub use nonces::nonces_are_distinct;
-pub use submission::{EncodeRefused, Meta, encode, encode_line, encode_line_with};
+pub use shape::Shaper;
+pub use submission::{EncodeRefused, Meta, encode, encode_by, encode_line, encode_line_with};
