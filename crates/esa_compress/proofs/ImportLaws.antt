@@ -59,7 +59,7 @@ module _ (p : Sizes) (d : Draw) (h : List ℕ) (drawn : IsDrawn p d) (all : writ
       → waiting + more ≡ reached p d (i + 1) - first p j
   waiting-more j i waiting more i_in put are parts = omega (arith, more-reached i i_in, are, parts, put)
 
-  climbs : (i m : ℕ) → i + m ≤ p.b → reached p d i ≤ reached p d (i + m)
+  pub climbs : (i m : ℕ) → i + m ≤ p.b → reached p d i ≤ reached p d (i + m)
   climbs i zero i_in = let here : i + 0 ≡ i = omega arith in omega (arith, ap (reached p d) here)
   climbs i (suc m) i_in =
       let next : i + m + 1 ≡ i + suc m = omega arith in

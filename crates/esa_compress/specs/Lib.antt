@@ -1,2 +1,3 @@
+pub mod Fed
 pub mod Held
 pub mod Imported

@@ -4,14 +4,15 @@
 //! In them h is the turns of an attempt in which all chunks were written and no target left more than a tail, and each
 //! place has the item of its record, which is no dummy.
 
-ghost use Rattle.std.specs.Prelude.{◌≡◌, ℕ, suc, ◌+◌, ◌-◌, ◌*◌, ◌<◌, ◌≤◌, nat_lt, true, if◌then◌else◌, None, List, ◌++◌, IsPermutation, length, take, drop, map};
+ghost use Rattle.std.specs.Prelude.{◌≡◌, ℕ, suc, ◌+◌, ◌-◌, ◌*◌, ◌<◌, ◌≤◌, nat_lt, true, if◌then◌else◌, None, List, [], ◌++◌, IsPermutation, length, take, drop, map};
 ghost use Rattle.esa_params.specs.Sizes.{Sizes, below, first, size};
 ghost use Rattle.esa_report.specs.declared.item.Item.{Item};
 ghost use Rattle.esa_spec.specs.Draws.{Draw, IsDrawn};
 ghost use Rattle.esa_spec.specs.Places.{arranged, output_places, window};
 ghost use Rattle.esa_spec.specs.Turns.{order, writes};
-ghost use Rattle.esa_spec.specs.Verdicts.{imported, left, reached, step_verdict, Import, Put};
+ghost use Rattle.esa_spec.specs.Verdicts.{imported, left, reached, step_verdict, steps, first_bad, Import, Put};
 ghost use Rattle.esa_spec.specs.declared.event.Verdict.TheVariants.{Good, QueueOverflow, QueueStarved};
+ghost use Rattle.esa_compress.specs.Fed.{fed_verdict, fed_outputs};
 ghost use Rattle.esa_compress.specs.Held.{is_held, held_in, held_count};
 ghost use Rattle.esa_compress.specs.Imported.{import_items, parts_of};
 
@@ -69,4 +70,17 @@ pub fn one_output_counted()
     ensures { (p : Sizes) (d : Draw) (j waiting : ℕ) → first p j ≤ reached p d (imported p (suc j))
         → waiting ≡ reached p d (imported p (suc j)) - first p j
         → step_verdict p d (Put j) ≡ (if nat_lt waiting (size p j) then QueueStarved j else Good) }
+{}
+
+/// A queue that is fed block by block is the list of places. From the empty queue on, the steps of the compression end as
+/// the definitions say, by what they find in the queue alone. Where all of them are done, output bucket j is given the
+/// records of its places, in order.
+pub fn fed_queue_is_places()
+    ensures verdict { (p : Sizes) (d : Draw) (h : List ℕ) → IsDrawn p d → writes p.b h ≡ p.b * p.b → left p d (order p.b h) ≡ None
+        → (record_of : ℕ → Item) → ((x : ℕ) → is_held (record_of x) ≡ true)
+        → fed_verdict record_of p d (order p.b h) [] (steps p) ≡ first_bad (map (step_verdict p d) (steps p)) }
+    ensures outputs { (p : Sizes) (d : Draw) (h : List ℕ) → IsDrawn p d → writes p.b h ≡ p.b * p.b → left p d (order p.b h) ≡ None
+        → (record_of : ℕ → Item) → ((x : ℕ) → is_held (record_of x) ≡ true)
+        → first_bad (map (step_verdict p d) (steps p)) ≡ Good
+        → fed_outputs record_of p d (order p.b h) [] (steps p) ≡ map (λ j. map record_of (output_places p d h j)) (below p.b) }
 {}
