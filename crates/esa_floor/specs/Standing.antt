@@ -12,13 +12,14 @@ use Rattle.esa_spec.specs.Histories.{begun, latest, lists}
 use Rattle.esa_spec.specs.Lines.{backlog, chunk, overflows}
 use Rattle.esa_spec.specs.Places.{exchange_of}
 use Rattle.esa_spec.specs.Traces.{all_failed, asked, attempts, good_attempt, load, shuffle_trace, spread}
-use Rattle.esa_spec.specs.Turns.{claims, event_at, order, writes}
+use Rattle.esa_spec.specs.Turns.{event_at, order}
+use Rattle.esa_spec.specs.Turns as turns
 use Rattle.esa_spec.specs.Verdicts.{failing}
 use Rattle.esa_spec.specs.declared.event.Event.TheVariants.{Exchange, Read}
-use Rattle.esa_stash.specs.Stash.{empty_stash, queue_at}
+use Rattle.esa_stash.specs.Stash.{Held, empty_stash, queue_at}
 use Rattle.esa_device.specs.Logs.{slot_number}
 use Rattle.esa_vault.specs.Seals.{opens}
-use Rattle.esa_floor.specs.Parts.{Parts, count_at, no_counts}
+use Rattle.esa_floor.specs.Parts.{Counted, Parts, count_at, no_counts}
 use Rattle.esa_floor.specs.declared.turn.Outcome.{Outcome}
 use Rattle.esa_floor.specs.declared.turn.Outcome.TheVariants as outcome
 use Rattle.esa_floor.specs.declared.turn.Stop.{Stop}
@@ -88,16 +89,16 @@ StopsAt faults d a f done (Some (stop.Tampered number)) =
     × (opens f.plan f.run (at Input number) a 0 f.recorder.last ≡ false)
     × (faults f.recorder.device ≡ f.faults)
 
--- what an attempt has made of the queues and the counts with these turns
-pub record IsSpread {V : Type 0} (d : Draw) (h : List ℕ) (f : Parts V) : Type 0 where
-  pub runs : failing f.plan d (order f.plan.b h) ≡ None
+-- what the turns of an attempt have made of the stash, the counts of the chunks and what is counted
+pub record IsSpread (p : Sizes) (d : Draw) (h : List ℕ) (stash : Held) (counts : List ℕ) (counted : Counted) : Type 0 where
+  pub runs : failing p d (order p.b h) ≡ None
   -- each queue is as long as the backlog of its target
-  pub waits : (i : ℕ) → i < f.plan.b → length (queue_at f.stash i) ≡ backlog f.plan d (order f.plan.b h) (length (order f.plan.b h)) i
+  pub waits : (i : ℕ) → i < p.b → length (queue_at stash i) ≡ backlog p d (order p.b h) (length (order p.b h)) i
   -- the chunks of each bucket that was exchanged are counted
-  pub counts : (j i : ℕ) → i < f.plan.b → 1 ≤ count_by (λ k. k == j) (order f.plan.b h)
-      → count_at f.plan.b f.counts j i ≡ length (chunk f.plan d (order f.plan.b h) (exchange_of (order f.plan.b h) j) i)
-  pub claims : f.counted.claims ≡ min (claims f.plan.b h) f.plan.b
-  pub writes : f.counted.writes ≡ writes f.plan.b h
+  pub chunks : (j i : ℕ) → i < p.b → 1 ≤ count_by (λ k. k == j) (order p.b h)
+      → count_at p.b counts j i ≡ length (chunk p d (order p.b h) (exchange_of (order p.b h) j) i)
+  pub claims : counted.claims ≡ min (turns.claims p.b h) p.b
+  pub writes : counted.writes ≡ turns.writes p.b h
 
 -- an attempt is at work. The first `done` of its turns did not fail
 pub record IsAtWork {V : Type 0} (faults : V → ℕ) (ds : ℕ → Draw) (f : Parts V) (a : ℕ) : Type 0 where
@@ -110,7 +111,7 @@ pub record IsAtWork {V : Type 0} (faults : V → ℕ) (ds : ℕ → Draw) (f : P
   -- the accesses are those of the load, of the attempts before, and of the turns up to the first that failed
   pub traced : f.recorder.trace
       ≡ (load f.plan ++ attempts f.plan ds 0 (lists_before f)) ++ spread f.plan (ds a) a (take (done + 1) (turns_made f))
-  pub spread : IsSpread (ds a) (take done (turns_made f)) f
+  pub spread : IsSpread f.plan (ds a) (take done (turns_made f)) f.stash f.counts f.counted
   pub stops : StopsAt faults (ds a) a f done f.stop
 
 -- how a run has ended

@@ -1,12 +1,14 @@
 //! The stash of an attempt, and how many items its chunks have.
 
-ghost use Rattle.std.specs.Prelude.{◌≡◌, ◌+◌, ◌*◌, ◌<◌, ◌≤◌, ◌↔◌, IfOk, IfErr, IsOk, OnOk, OnErr, length};
-ghost use Rattle.esa_stash.specs.Stash.{empty_stash, padded, queue_at, without};
+ghost use Rattle.std.specs.Prelude.{◌≡◌, ◌≢◌, ℕ, ◌+◌, ◌*◌, ◌<◌, ◌≤◌, ◌↔◌, All, IfOk, IfErr, IsOk, OnOk, OnErr, length};
+ghost use Rattle.esa_stash.specs.Dealing.{chunk_at};
+ghost use Rattle.esa_stash.specs.Stash.{count, empty_stash, exchanged, padded, padded_chunk, queue_at, total, without};
+ghost use Rattle.esa_floor.specs.Exchanges.{AreOf};
 ghost use Rattle.esa_floor.specs.Parts.{count_at, no_counts};
 
 use esa_params::Plan;
 use esa_report::Item;
-use esa_stash::{Left, Stash};
+use esa_stash::{Left, Overflow, Stash};
 use std::alloc::{AllocError, Global};
 use std::marker::Model;
 
@@ -66,6 +68,34 @@ impl Exchanger {
         ensures { result ≡ count_at self.now.plan.b self.now.counts bucket target }
     {
         self.counts[bucket as usize * self.plan.b() as usize + target as usize]
+    }
+
+    /// Exchanges the items of a bucket for its chunks, as [`Stash::exchange`] does, and keeps how many items they have.
+    pub(crate) fn exchange(
+        &mut self,
+        bucket: u32,
+        targets: &[u32],
+        items: &[Item],
+        chunks: &mut [Item],
+    ) -> Result<(), Overflow>
+        requires bucket { bucket < self.old.plan.b }
+        requires item_each { length items.now ≡ length targets.now }
+        requires below { All (λ target. target < self.old.plan.b) targets.now }
+        requires places { length chunks.old ≡ self.old.plan.b * self.old.plan.c }
+        ensures fits { IsOk result ↔ (total (exchanged self.old.stash (targets.now, items.now)) ≤ self.old.plan.s) }
+        ensures plan { self.new.plan ≡ self.old.plan }
+        ensures stash { OnOk result (self.new.stash ≡ exchanged self.old.stash (targets.now, items.now)) }
+        ensures each { OnOk result ((i : ℕ) → i < self.old.plan.b → chunk_at self.old.plan.c chunks.new i ≡ padded_chunk self.old.stash (targets.now, items.now) i) }
+        ensures counts { OnOk result ((i : ℕ) → i < self.old.plan.b → count_at self.old.plan.b self.new.counts bucket i ≡ count self.old.stash (targets.now, items.now) i) }
+        ensures others { OnOk result ((j i : ℕ) → i < self.old.plan.b → j ≢ bucket → count_at self.old.plan.b self.new.counts j i ≡ count_at self.old.plan.b self.old.counts j i) }
+        ensures unchanged { OnErr result (self.new ≡ self.old) }
+        ensures chunks_unchanged { OnErr result (chunks.new ≡ chunks.old) }
+        ensures of { AreOf self.old.plan self.old.stash self.old.counts }
+    {
+        let b = self.plan.b() as usize;
+        let from = bucket as usize * b;
+        self.stash
+            .exchange(targets, items, chunks, &mut self.counts[from..from + b])
     }
 
     /// Moves a target's queue out, as [`Stash::spill`] does.

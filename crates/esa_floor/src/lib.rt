@@ -10,6 +10,7 @@
 mod exchanger;
 mod floor;
 mod logged;
+mod private;
 mod told;
 mod turn;
 
