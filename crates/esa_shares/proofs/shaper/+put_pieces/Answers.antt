@@ -1,4 +1,4 @@
-use Rattle.std.proofs.Common.{◌≡◌, ◌∙◌, ◌++◌, List, ℕ, ap₂}
+use Rattle.std.proofs.Common.{◌∙◌, ◌++◌, List, ℕ, ap₂}
 use Rattle.esa_shares.specs.Share.{piece_of}
 use Rattle.esa_shares.proofs.ShareSteps.{pieces_more}
 use Rattle.esa_shares.proofs.shaper.+put_pieces.Goals as goal

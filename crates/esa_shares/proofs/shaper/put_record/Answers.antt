@@ -1,4 +1,4 @@
-use Rattle.std.proofs.Common.{◌≡◌, ◌∙◌, ◌++◌, List, ℕ, ap₂}
+use Rattle.std.proofs.Common.{◌∙◌, ◌++◌, List, ℕ, ap₂}
 use Rattle.esa_shares.proofs.shaper.put_record.Goals as goal
 
 pub returns : goal.returns

@@ -1,4 +1,4 @@
-use Rattle.std.proofs.Common.{◌≡◌, ◌∙◌, ◌-◌, ◌*◌, ◌%◌, length, ap, arith}
+use Rattle.std.proofs.Common.{◌∙◌, ◌-◌, ◌*◌, ◌%◌, length, ap}
 use Rattle.std.proofs.Math.Nat.{mul-mod_left}
 use Rattle.esa_shares.specs.Polynomial.{evaluated}
 use Rattle.esa_shares.specs.Share.{share_record, mark_of, share_of}
