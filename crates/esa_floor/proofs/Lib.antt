@@ -1,5 +1,6 @@
 mod Counting
 mod Exchanging
+mod Fitting
 mod Opening
 mod Sealing
 mod Spreading

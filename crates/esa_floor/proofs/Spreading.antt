@@ -1,5 +1,5 @@
 -- What one turn more makes of the stash, the counts and what is counted.
-use Rattle.std.proofs.Common.{◌≡◌, ◌≢◌, ℕ, zero, suc, ◌+◌, ◌-◌, ◌*◌, ◌<◌, ◌≤◌, min, true, false, Bool, List, [], ◌∷◌, ◌++◌, length, Option, Some, None, refl, sym, ap, ◌∙◌, subst, arith, inl, inr, append-nil}
+use Rattle.std.proofs.Common.{◌≡◌, ◌≢◌, ℕ, ◌+◌, ◌<◌, ◌≤◌, min, false, Bool, List, [], ◌∷◌, ◌++◌, length, Some, None, sym, ap, ◌∙◌, subst, arith, inl, inr, append-nil}
 use Rattle.std.specs.Prelude.{count_by, ◌==◌, nat_lt, if◌then◌else◌}
 use Rattle.std.specs.Option.{option_to_list}
 use Rattle.std.proofs.lemmas.Bool.{cases_Bool}
@@ -7,17 +7,14 @@ use Rattle.std.proofs.lemmas.Bool.Decides.{nat_tests}
 use Rattle.esa_laws.proofs.ExchangeLaws.{exchange-new, exchange_of-push}
 use Rattle.esa_laws.proofs.GrownLaws.{chunk-kept}
 use Rattle.esa_laws.proofs.PermLaws.{occurrences, occurs-append, occurs-cons}
-use Rattle.esa_laws.proofs.TurnLaws.{claims-push, order-push, writes-push}
+use Rattle.esa_laws.proofs.TurnLaws.{order-push}
 use Rattle.esa_laws.proofs.VerdictLaws.{failing-none, failing-same}
 use Rattle.esa_params.specs.Sizes.{Sizes, size}
 use Rattle.esa_report.specs.declared.item.Item.{Item}
 use Rattle.esa_spec.specs.Draws.{Draw}
-use Rattle.esa_spec.specs.Lines.{backlog, chunk, overflows, stashed}
+use Rattle.esa_spec.specs.Lines.{backlog, chunk, overflows}
 use Rattle.esa_spec.specs.Places.{exchange_of}
-use Rattle.esa_spec.specs.Turns.{claims, exchanged, is_write, next, next_phase, order, writes}
-use Rattle.esa_spec.specs.Verdicts.{failing}
-use Rattle.esa_spec.specs.declared.event.Event.{Event}
-use Rattle.esa_spec.specs.declared.event.Event.TheVariants.{Exchange}
+use Rattle.esa_spec.specs.Turns.{claims, exchanged, next, order, writes}
 use Rattle.esa_stash.specs.Stash.{Held, count, queue_at, total}
 use Rattle.esa_stash.specs.Stash as stash
 use Rattle.esa_floor.specs.Exchanges.{AreOf}

@@ -1,5 +1,5 @@
 -- A floor at work still stands once a turn is made: one that does not fail, one that fails, and one after that.
-use Rattle.std.proofs.Common.{◌≡◌, ◌≢◌, ℕ, zero, suc, ◌+◌, ◌-◌, ◌*◌, ◌<◌, ◌≤◌, true, false, Bool, List, [], ◌∷◌, ◌++◌, length, take, Option, Some, None, refl, sym, ap, ap₂, ◌∙◌, subst, arith, append_assoc, append-nil, take_all}
+use Rattle.std.proofs.Common.{◌≡◌, ◌≢◌, ℕ, ◌+◌, ◌-◌, ◌<◌, ◌≤◌, true, false, List, [], ◌∷◌, ◌++◌, length, take, Option, Some, None, refl, sym, ap, ap₂, ◌∙◌, subst, arith, append_assoc, append-nil, take_all}
 use Rattle.std.specs.Option.{option_to_list}
 use Rattle.std.proofs.lemmas.List.{length-append, take-append-le}
 use Rattle.esa_device.specs.Logs.{slot_number}
@@ -8,7 +8,6 @@ use Rattle.esa_laws.proofs.HistoryLaws.{begun-worker, latest-worker, lists-worke
 use Rattle.esa_laws.proofs.SpreadLaws.{spread-push}
 use Rattle.esa_laws.proofs.TurnLaws.{event_at-append}
 use Rattle.esa_outside.specs.Cause.{Rose}
-use Rattle.esa_params.specs.Sizes.{Sizes}
 use Rattle.esa_params.specs.Slots.{at}
 use Rattle.esa_params.specs.declared.slot.Access.{Access}
 use Rattle.esa_params.specs.declared.slot.Region.TheVariants.{Input}
@@ -17,13 +16,12 @@ use Rattle.esa_spec.specs.Histories.{begun, latest, lists}
 use Rattle.esa_spec.specs.Lines.{overflows}
 use Rattle.esa_spec.specs.Traces.{all_failed, asked, attempts, load, spread}
 use Rattle.esa_spec.specs.Turns.{event_at, next, order}
-use Rattle.esa_spec.specs.Verdicts.{failing}
 use Rattle.esa_spec.specs.declared.event.Event.{Event}
 use Rattle.esa_spec.specs.declared.event.Event.TheVariants.{Exchange, Read}
 use Rattle.esa_stash.specs.Stash.{Held}
 use Rattle.esa_vault.specs.Seals.{opens}
 use Rattle.esa_floor.specs.Parts.{Counted, Parts}
-use Rattle.esa_floor.specs.Standing.{IsAtWork, IsSpread, StopsAt, attempt_begun, lists_before, turns_made}
+use Rattle.esa_floor.specs.Standing.{IsAtWork, IsSpread, StopsAt, lists_before, turns_made}
 use Rattle.esa_floor.specs.declared.turn.Stop.{Stop}
 use Rattle.esa_floor.specs.declared.turn.Stop.TheVariants as stop
 

@@ -3,3 +3,4 @@ pub mod Marks
 pub mod Parts
 pub mod Private
 pub mod Standing
+pub mod Working

@@ -7,13 +7,16 @@
 //! shuffle, esa_spec, and the lock, esa_turnstile.
 #![tactic(auto)]
 
+mod buffers;
 mod exchanger;
 mod floor;
 mod logged;
 mod private;
 mod told;
 mod turn;
+mod worker;
 
 pub use floor::{Floor, Given, History, NoFloor, Roots};
 pub use told::Told;
 pub use turn::{Outcome, Stop, Turn};
+pub use worker::{Stage, Worker};

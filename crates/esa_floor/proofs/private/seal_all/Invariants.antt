@@ -1,6 +1,4 @@
 -- The blocks of the targets before this one are sealed.
-use Rattle.std.proofs.Common.{◌≡◌, ◌*◌, length}
-use Rattle.esa_params.specs.Slots.{item_length}
 use Rattle.esa_floor.specs.Private.{AreRooms, AreSealed, blocks_in}
 use Rattle.esa_floor.proofs.private.seal_all.Given as goal
 

@@ -1,5 +1,5 @@
 -- The counts of the bucket's chunks are put in their row.
-use Rattle.std.proofs.Common.{◌≡◌, ℕ, ◌-◌, ◌+◌, ◌*◌, ◌<◌, List, length, drop, get_or, map, Result, Ok, Err, OnOk, sym, ap, ◌∙◌, arith}
+use Rattle.std.proofs.Common.{◌≡◌, ℕ, ◌*◌, ◌<◌, List, length, get_or, Result, Ok, Err, OnOk, sym, ap, ◌∙◌, arith}
 use Rattle.std.proofs.lemmas.List.FromFn.{get_or-map-range_with_len, length-map-range_with_len}
 use Rattle.esa_params.specs.Sizes.{Sizes}
 use Rattle.esa_stash.specs.Stash.{contents, count, counts}

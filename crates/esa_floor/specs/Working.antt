@@ -1,0 +1,90 @@
+-- What contracts see of a worker, and what its private work makes of what it holds.
+use Rattle.std.specs.Prelude.{◌≡◌, ℕ, ◌+◌, ◌-◌, ◌*◌, ◌<◌, List, All, length, map, take, Option, Some, None}
+use Rattle.esa_envelope.specs.declared.keys.Keys.{Keys}
+use Rattle.esa_params.specs.Form.{envelope_length}
+use Rattle.esa_params.specs.Sizes.{Sizes, below, size}
+use Rattle.esa_params.specs.Slots.{item_length}
+use Rattle.esa_report.specs.declared.item.Item.{Item}
+use Rattle.esa_vault.specs.Placed.{IsSpelled}
+use Rattle.esa_floor.specs.Private.{AreRooms, AreSealed, item_opened}
+use Rattle.esa_floor.specs.declared.worker.Stage.{Stage}
+use Rattle.esa_floor.specs.declared.worker.Stage.TheVariants.{Empty, Envelopes, Items, Chunks, Blocks}
+
+-- the buffers of a worker
+pub record Buffered : Type 0 where
+  pub plan : Sizes
+  -- the envelopes of a bucket, their items, and their targets
+  pub text : List ℕ
+  pub items : List Item
+  pub targets : List ℕ
+  -- the chunks of a bucket, and their blocks
+  pub chunks : List Item
+  pub blocks : List (List ℕ)
+
+-- the buffers have the lengths that the plan asks for at most: those of the first bucket, and of the chunks
+pub record AreBuffers (p : Sizes) (text : List ℕ) (items : List Item) (targets draw : List ℕ) (chunks : List Item) (chunk : List ℕ) (blocks : List (List ℕ)) : Type 0 where
+  pub envelopes : length text ≡ size p 0 * envelope_length p.form
+  pub item_each : length items ≡ size p 0
+  pub target_each : length targets ≡ size p 0
+  pub to_draw : length draw ≡ size p 0 + p.b - 1
+  pub chunk_each : length chunks ≡ p.b * p.c
+  pub chunk_text : length chunk ≡ item_length p.form * p.c
+  pub rooms : AreRooms p blocks
+
+-- the parts of a worker
+pub record Working (C : Type 0) : Type 0 where
+  pub coins : C
+  pub number : ℕ
+  pub outer : Keys
+  pub run : Keys
+  -- the attempt that it began last, the phase of its next turn, and the bucket of its round
+  pub attempt : Option ℕ
+  pub phase : ℕ
+  pub bucket : ℕ
+  -- what it holds of the bucket
+  pub stage : Stage
+  pub buffers : Buffered
+
+-- nothing is left to prepare
+abbrev pub IsReady : Stage → Type 0
+IsReady Empty = Unit {0}
+IsReady Envelopes = ⊥
+IsReady Items = Unit {0}
+IsReady Chunks = ⊥
+IsReady Blocks = Unit {0}
+
+-- the attempt was begun, and is one of the plan
+abbrev pub IsBegun : Sizes → Option ℕ → Type 0
+IsBegun p None = ⊥
+IsBegun p (Some a) = a < p.attempts
+
+-- what a worker holds can be prepared: the bucket is one of the plan, and items that are to be sealed can be spelled
+abbrev pub CanPrepare : Sizes → Option ℕ → ℕ → List Item → Stage → Type 0
+CanPrepare p attempt bucket chunks Envelopes = IsBegun p attempt × (bucket < p.b)
+CanPrepare p attempt bucket chunks Chunks = IsBegun p attempt × (bucket < p.b) × All (IsSpelled (item_length p.form)) chunks
+CanPrepare p attempt bucket chunks Empty = Unit {0}
+CanPrepare p attempt bucket chunks Items = Unit {0}
+CanPrepare p attempt bucket chunks Blocks = Unit {0}
+
+-- a worker of this number that has begun an attempt
+abbrev pub begun_with : {C : Type 0} → Working C → ℕ → Working C
+begun_with w attempt = record w { attempt = Some attempt; phase = 0; bucket = 0; stage = Empty }
+
+-- the attempt that was begun, or 0
+abbrev pub attempt_in : Option ℕ → ℕ
+attempt_in None = 0
+attempt_in (Some a) = a
+
+-- what its private work makes of what a worker holds, by the targets that its coins draw for each attempt and bucket
+abbrev pub Prepares : {C : Type 0} → (ℕ → ℕ → List ℕ) → Working C → Working C → Stage → Type 0
+Prepares target_list old new Envelopes =
+    (new ≡ record old { stage = Items; buffers = record old.buffers { items = new.buffers.items; targets = new.buffers.targets } })
+    × (take (size old.buffers.plan old.bucket) new.buffers.items
+    ≡ map (item_opened old.outer (envelope_length old.buffers.plan.form) old.buffers.text) (below (size old.buffers.plan old.bucket)))
+    × (take (size old.buffers.plan old.bucket) new.buffers.targets ≡ target_list (attempt_in old.attempt) old.bucket)
+Prepares target_list old new Chunks =
+    (new ≡ record old { stage = Blocks; buffers = record old.buffers { blocks = new.buffers.blocks } })
+    × AreSealed old.buffers.plan old.run old.bucket (attempt_in old.attempt) old.buffers.chunks new.buffers.blocks old.buffers.plan.b
+Prepares target_list old new Empty = new ≡ old
+Prepares target_list old new Items = new ≡ old
+Prepares target_list old new Blocks = new ≡ old
