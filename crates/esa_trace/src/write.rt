@@ -4,8 +4,10 @@ ghost use Rattle.std.specs.Prelude.{◌≡◌, ◌⊎◌, ◌<◌, ◌^◌, ◌+
 ghost use Rattle.std.specs.FinMap as map;
 ghost use Rattle.esa_outside.specs.Files.{Files};
 ghost use Rattle.esa_outside.specs.Cause.{HasCause};
+ghost use Rattle.esa_outside.specs.Heard.{Event};
 ghost use Rattle.esa_outside.specs.Told.{HoldsFront};
 ghost use Rattle.esa_page.specs.Underway.{IsUnderway, IsWhole, IsLeft};
+ghost use Rattle.esa_page.specs.Writing.{IsWriting, HasWritten, HasBroken};
 ghost use Rattle.esa_spec.specs.Files.{access_bytes, trace_bytes};
 
 use crate::bytes::{header, spell};
@@ -27,6 +29,12 @@ fn put_accesses<K: Cabinet>(
     ensures failed { (before : Option Files) (text : List ℕ)
         → IsUnderway before name.now text page.old (K.told cabinet.old)
         → OnErr result (IsLeft before name.now (text ++ flat_map access_bytes accesses.now) (K.told cabinet.new)) }
+    ensures heard { (before : List Event) (text : List ℕ)
+        → IsWriting before name.now text page.old (K.heard cabinet.old)
+        → OnOk result (IsWriting before name.now (text ++ flat_map access_bytes accesses.now) page.new (K.heard cabinet.new)) }
+    ensures heard_broken { (before : List Event) (text : List ℕ)
+        → IsWriting before name.now text page.old (K.heard cabinet.old)
+        → OnErr result (HasBroken before name.now (text ++ flat_map access_bytes accesses.now) (K.heard cabinet.new)) }
     ensures cause { (before : Option Files) (text : List ℕ)
         → IsUnderway before name.now text page.old (K.told cabinet.old)
         → HasCause (K.faults cabinet.old) (K.faults cabinet.new) ⊥ result }
@@ -43,6 +51,8 @@ fn write_file<K: Cabinet>(accesses: &[Access], cabinet: &mut K, name: &str) -> R
     requires number { length accesses.now < 2 ^ 32 }
     ensures whole { OnOk result (IsWhole (K.told cabinet.old) name.now (trace_bytes accesses.now) (K.told cabinet.new)) }
     ensures left { OnErr result (IsLeft (K.told cabinet.old) name.now (trace_bytes accesses.now) (K.told cabinet.new)) }
+    ensures heard { OnOk result (HasWritten (K.heard cabinet.old) name.now (trace_bytes accesses.now) (K.heard cabinet.new)) }
+    ensures heard_broken { OnErr result (HasBroken (K.heard cabinet.old) name.now (trace_bytes accesses.now) (K.heard cabinet.new)) }
     ensures cause { HasCause (K.faults cabinet.old) (K.faults cabinet.new) ⊥ result }
 {
     let mut page = Page::start(cabinet, name)?;
@@ -70,6 +80,8 @@ pub fn write_trace<K: Cabinet>(
     ensures failed { (files : Files) → K.told cabinet.old ≡ Some files
         → OnErr result ((K.told cabinet.new ≡ Some files) ⊎ HoldsFront files name.now (trace_bytes accesses.now) (K.told cabinet.new)) }
     ensures silent { K.told cabinet.old ≡ None → K.told cabinet.new ≡ None }
+    ensures heard { OnOk result (HasWritten (K.heard cabinet.old) name.now (trace_bytes accesses.now) (K.heard cabinet.new)) }
+    ensures heard_broken { OnErr result (HasBroken (K.heard cabinet.old) name.now (trace_bytes accesses.now) (K.heard cabinet.new)) }
     ensures cause { HasCause (K.faults cabinet.old) (K.faults cabinet.new) ⊥ result }
 {
     write_file(accesses, cabinet, name)
