@@ -1,5 +1,7 @@
-use super::*;
+//! Crowds and reports.
+
 use esa_bytes::hex_into;
+use esa_report::{TooLong, code, crowd_of, value_of};
 use std::test::Fail;
 
 /// A crowd's id, a report byte by byte, and the longest value of each form and one byte more.
@@ -22,24 +24,5 @@ fn report_limits(rt: HostRuntime) -> Result<(), Fail> {
     assert_eq!(rt; code::<64>(&value[..63]), Err(TooLong { length: 63 }));
     assert!(rt; code::<192>(&value[..190]).is_ok());
     assert_eq!(rt; code::<192>(&value), Err(TooLong { length: 191 }));
-    Ok(())
-}
-
-/// An item of each kind comes back from its bytes, in both lengths.
-#[test]
-fn items_come_back(rt: HostRuntime) -> Result<(), Fail> {
-    let mut real = Item::dummy();
-    real.kind = Kind::Real;
-    real.body[135] = 7;
-    let mut short = [9; 137];
-    real.put(&mut short);
-    assert!(rt; item_at(&short) == Some(real));
-    short[0] = 3;
-    assert!(rt; item_at(&short).is_none());
-    let mut long = [9; 265];
-    Item::malformed().put(&mut long);
-    assert!(rt; item_at(&long) == Some(Item::malformed()));
-    long[0] = 0;
-    assert!(rt; item_at(&long) == Some(Item::dummy()));
     Ok(())
 }

@@ -1,5 +1,9 @@
-use super::*;
+//! Keystream and envelopes.
+
 use esa_bytes::hex_into;
+use esa_envelope::{
+    Keys, Label, epoch_master, keys_of, nonce_of, prepare, seal, seal_with, unseal, unseal_with,
+};
 use std::process::Abort;
 use std::test::Fail;
 

@@ -1,4 +1,6 @@
-use super::*;
+//! HMAC-SHA-256.
+
+use esa_hmac::{Mac, hmac};
 use std::test::Fail;
 
 /// RFC 4231, test cases 1 and 2, and 6, whose key is longer than a block.
