@@ -10,8 +10,6 @@ mod nonces;
 mod report;
 mod seal;
 mod submission;
-#[cfg(test)]
-mod tests;
 
 pub use nonces::nonces_are_distinct;
 pub use submission::{EncodeRefused, Meta, encode, encode_line, encode_line_with};
