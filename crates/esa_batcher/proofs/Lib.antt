@@ -1,3 +1,4 @@
+pub mod ArrangingLaws
 pub mod Parts
 pub mod RisingLaws
 pub mod BatchLaws

@@ -5,7 +5,7 @@ use Rattle.esa_params.specs.Form.{envelope_length}
 use Rattle.esa_bytes.specs.Hexadecimal.{hex_in}
 use Rattle.esa_line.specs.declared.refused.LineCause.{LineCause}
 use Rattle.esa_line.specs.declared.refused.LineCause.TheVariants.{MissingField, BadHex as NoHex}
-use Rattle.esa_line.specs.Front.{split_in, front_in}
+use Rattle.esa_line.specs.Line.{tabs, head_cause, rest_of}
 use Rattle.esa_batcher.specs.declared.digits.NotAdded.{NotAdded}
 use Rattle.esa_batcher.specs.declared.digits.NotAdded.TheVariants.{BadHex, OutOfMemory}
 use Rattle.esa_batcher.specs.declared.refused.AddRefused.{AddRefused}
@@ -19,21 +19,13 @@ AddsHex size text before now (Err OutOfMemory) = now ≡ before
 
 -- ---- a submission line: a moment, a tab, a sender, a tab, and an envelope in hexadecimal digits
 
-abbrev pub behind_front : List ℕ → Result (Unit {0}) LineCause → Result (List ℕ) LineCause
-behind_front text (Ok passed) = Ok text
-behind_front text (Err cause) = Err cause
-
-abbrev pub behind_moment : List ℕ → Option (List ℕ × List ℕ) → Result (List ℕ) LineCause
-behind_moment moment None = Err MissingField
-behind_moment moment (Some parts) = behind_front parts.1 (front_in moment parts.0)
-
-abbrev pub behind_line : Option (List ℕ × List ℕ) → Result (List ℕ) LineCause
-behind_line None = Err MissingField
-behind_line (Some parts) = behind_moment parts.0 (split_in parts.1)
+abbrev pub unless_caused : Option LineCause → List ℕ → Result (List ℕ) LineCause
+unless_caused None text = Ok text
+unless_caused (Some cause) text = Err cause
 
 -- the text behind the second tab, or the first cause for which the front is refused
 abbrev pub text_in : List ℕ → Result (List ℕ) LineCause
-text_in line = behind_line (split_in line)
+text_in line = if nat_lt (tabs line) 2 then Err MissingField else unless_caused (head_cause line) (rest_of line)
 
 abbrev pub hex_result : Option (List ℕ) → Result (List ℕ) LineCause
 hex_result None = Err NoHex

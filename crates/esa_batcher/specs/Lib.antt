@@ -1,4 +1,5 @@
 pub mod Adding
+pub mod Arranging
 pub mod Batched
 pub mod Envelopes
 pub mod InFile

@@ -1,6 +1,6 @@
 //! Gathering submissions into a batch.
 
-ghost use Rattle.std.specs.Prelude.{◌≡◌, ◌⊎◌, ◌↔◌, ◌≤◌, ◌<◌, ℕ, List, [], Ok, Err, IsErr, IfOk, IfErr, OnOk, OnErr, MatchResult, length};
+ghost use Rattle.std.specs.Prelude.{◌≡◌, ◌⊎◌, ◌↔◌, ◌≤◌, ◌<◌, ◌^◌, ℕ, List, [], Ok, Err, IsErr, IfOk, IfErr, OnOk, OnErr, MatchResult, length, vec_capacity};
 ghost use Rattle.std.specs.List.Sorted.{IsPermutation};
 ghost use Rattle.esa_lists.specs.Ordered.{ordered};
 ghost use Rattle.esa_batcher.specs.declared.refused.AddRefused.TheVariants as add;
@@ -10,11 +10,12 @@ ghost use Rattle.esa_batcher.specs.Batched.{IsBatch};
 ghost use Rattle.esa_batcher.specs.Finishing.{epoch_of, batch_of};
 ghost use Rattle.esa_batcher.specs.Rising.{by_bytes};
 
+use crate::arrange::Key;
 use crate::batch::Batch;
 use crate::digits::NotAdded;
 use crate::envelopes::Envelopes;
 use crate::refused::{AddRefused, BatchRefused};
-use esa_line::{LineCause, LineRefused, check_front, split_tab};
+use esa_line::{LineCause, LineRefused, head_cause, head_in};
 use esa_params::{Form, MOST_RECORDS};
 use std::alloc::{AllocError, Global};
 use std::marker::Model;
@@ -23,6 +24,8 @@ use std::marker::Model;
 #[derive(Drop)]
 pub struct Batcher {
     envelopes: Envelopes,
+    /// Room for a key of each envelope, so that sorting takes no memory.
+    keys: Vec<Key>,
     room: u32,
 }
 
@@ -41,16 +44,26 @@ impl Model for Batcher {
 fn text_of(line: &[u8]) -> Result<&[u8], LineCause>
     ensures { MatchResult result (λ text. text_in line.now ≡ Ok text.now) (λ cause. text_in line.now ≡ Err cause) }
 {
-    let Some((moment, rest)) = split_tab(line) else {
+    let Some(head) = head_in(line) else {
         return Err(LineCause::MissingField);
     };
-    let Some((sender, text)) = split_tab(rest) else {
-        return Err(LineCause::MissingField);
-    };
-    match check_front(moment, sender) {
-        Ok(()) => Ok(text),
-        Err(cause) => Err(cause),
+    match head_cause(line, &head) {
+        None => Ok(&line[head.length..]),
+        Some(cause) => Err(cause),
     }
+}
+
+/// Makes room for one more key than so many. It takes memory only where there is none.
+fn reserve_key(keys: &mut Vec<Key>, held: usize) -> Result<(), AllocError>
+    requires few { held < 2 ^ 32 }
+    ensures room { OnOk result (held < vec_capacity keys.new) }
+    ensures capacity { vec_capacity keys.old ≤ vec_capacity keys.new }
+    ensures full { OnErr result (vec_capacity keys.old ≤ held) }
+{
+    if keys.capacity() <= held {
+        keys.reserve(held + 1)?;
+    }
+    Ok(())
 }
 
 impl Batcher {
@@ -59,7 +72,12 @@ impl Batcher {
         ensures { IfOk result (λ batcher. batcher ≡ record { form = form; room = room; list = [] }) }
     {
         let envelopes = Envelopes::reserved(alloc, form, room as usize)?;
-        Ok(Batcher { envelopes, room })
+        let keys = Vec::with_capacity(alloc, room as usize)?;
+        Ok(Batcher {
+            envelopes,
+            keys,
+            room,
+        })
     }
 
     /// Adds the envelope of a submission line: a moment, a tab, a sender, a tab, and the envelope in
@@ -81,6 +99,7 @@ impl Batcher {
             Ok(text) => text,
             Err(cause) => return Err(refused_line(number, cause)),
         };
+        reserve_key(&mut self.keys, self.envelopes.len())?;
         match self.envelopes.add(text) {
             Ok(()) => Ok(()),
             Err(NotAdded::BadHex) => Err(refused_line(number, LineCause::BadHex)),
@@ -103,7 +122,8 @@ impl Batcher {
         if n < m {
             return Err(BatchRefused::TooFew { n, m });
         }
-        envelopes.sort();
+        let mut keys = self.keys;
+        envelopes.sort(&mut keys);
         let epoch = epoch_for(envelopes.form(), epoch);
         Ok(Batch { envelopes, epoch })
     }

@@ -1,6 +1,6 @@
 //! Outer envelopes of one form.
 
-ghost use Rattle.std.specs.Prelude.{◌≡◌, ◌*◌, ◌<◌, ◌≤◌, Err, ℕ, length, slice_index_or, [], IfOk};
+ghost use Rattle.std.specs.Prelude.{◌≡◌, ◌*◌, ◌<◌, ◌≤◌, ◌^◌, Err, ℕ, length, vec_capacity, slice_index_or, [], IfOk};
 ghost use Rattle.std.specs.List.{concat};
 ghost use Rattle.esa_lists.specs.Ordered.{ordered};
 ghost use Rattle.esa_header.specs.Pieces.{pieces, HaveLength};
@@ -9,6 +9,7 @@ ghost use Rattle.esa_batcher.specs.Rising.{by_bytes};
 ghost use Rattle.esa_params.specs.Form.{envelope_length};
 ghost use Rattle.esa_batcher.specs.Envelopes.{list_of, form_of, capacity_of};
 
+use crate::arrange::{Key, sort_by_keys};
 use crate::digits::{NotAdded, push_decoded};
 use esa_params::Form;
 use std::alloc::{AllocError, Global};
@@ -59,14 +60,16 @@ impl Envelopes {
         }
     }
 
-    /// Puts the envelopes into rising order.
-    pub(crate) fn sort(&mut self)
+    /// Puts the envelopes into rising order, in the room of the keys.
+    pub(crate) fn sort(&mut self, keys: &mut Vec<Key>)
+        requires few { length (list_of self.old) < 2 ^ 32 }
+        requires room { length (list_of self.old) ≤ vec_capacity keys.old }
         ensures form { form_of self.new ≡ form_of self.old }
         ensures list { list_of self.new ≡ ordered by_bytes (list_of self.old) }
     {
         match self {
-            Envelopes::One(list) => list.sort_unstable(),
-            Envelopes::Two(list) => list.sort_unstable(),
+            Envelopes::One(list) => sort_by_keys(list, keys),
+            Envelopes::Two(list) => sort_by_keys(list, keys),
         }
     }
 

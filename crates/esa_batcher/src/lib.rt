@@ -5,6 +5,7 @@
 //! buffer. The crate stands on `esa_line`, `esa_header`, `esa_outside` and `esa_page`.
 #![tactic(auto)]
 
+mod arrange;
 mod batch;
 mod batcher;
 mod digits;

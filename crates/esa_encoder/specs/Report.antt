@@ -8,7 +8,7 @@ use Rattle.esa_line.specs.declared.refused.LineCause.{LineCause}
 use Rattle.esa_line.specs.declared.refused.LineCause.TheVariants.{MissingField, TooLong}
 use Rattle.esa_encoder.specs.declared.report.ReportLine.{ReportLine}
 use Rattle.esa_line.specs.Front.{is_tab}
-use Rattle.esa_encoder.specs.Line.{tabs, rest_of, head_cause, IsHead}
+use Rattle.esa_line.specs.Line.{tabs, rest_of, head_cause, IsHead}
 
 abbrev pub crowd_of : List ℕ → List ℕ
 crowd_of line = before_first is_tab (rest_of line)
@@ -20,11 +20,26 @@ value_of line = after_first is_tab (rest_of line)
 abbrev pub value_cause : Form → List ℕ → Option LineCause
 value_cause form value = if nat_lt (report_length form) (2 + length value) then Some TooLong else None
 
--- the first cause for which a line of reports of a form is refused
-abbrev pub report_cause : Form → List ℕ → Option LineCause
-report_cause form line =
-    if nat_lt (tabs line) 3 then Some MissingField
-    else option_or (head_cause line) (value_cause form (value_of line))
+-- What is sent in place of a value, by the nonce of its line: a list of bytes, or none where it has none for it.
+abbrev pub Shape : Type 0
+Shape = List ℕ → ℕ → Option (List ℕ)
+
+-- the value itself is sent
+abbrev pub itself : Shape
+itself value nonce = Some value
+
+-- a value that has nothing to be sent, or more than a report of the form has room for
+abbrev pub sent_cause : Form → Option (List ℕ) → Option LineCause
+sent_cause form None = Some TooLong
+sent_cause form (Some sent) = value_cause form sent
+
+-- what is wrong with a line beside what is sent: a missing field, the moment, or the sender
+abbrev pub fields_cause : List ℕ → Option LineCause
+fields_cause line = if nat_lt (tabs line) 3 then Some MissingField else head_cause line
+
+-- the first cause for which a line of reports of a form is refused, where this is sent in place of its value
+abbrev pub report_cause : Form → Option (List ℕ) → List ℕ → Option LineCause
+report_cause form sent line = option_or (fields_cause line) (sent_cause form sent)
 
 -- where the fields of a line stand
 pub record IsReportLine (line : List ℕ) (fields : ReportLine) : Type 0 where

@@ -5,11 +5,12 @@
 //! crate stands on `esa_bytes`, `esa_envelope`, `esa_line`, `esa_params`, `esa_report`, `hex` and `sha2`.
 #![tactic(auto)]
 
-mod head;
 mod nonces;
 mod report;
 mod seal;
+mod shape;
 mod submission;
 
 pub use nonces::nonces_are_distinct;
-pub use submission::{EncodeRefused, Meta, encode, encode_line, encode_line_with};
+pub use shape::Shaper;
+pub use submission::{EncodeRefused, Meta, encode, encode_by, encode_line, encode_line_with};

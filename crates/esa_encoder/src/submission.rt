@@ -5,19 +5,17 @@ ghost use Rattle.hex.specs.Hex.{encode_lower};
 ghost use Rattle.esa_bytes.specs.Lines.{text_lines};
 ghost use Rattle.esa_params.specs.Form.{envelope_length};
 ghost use Rattle.esa_encoder.specs.declared.submission.EncodeRefused.TheVariants as refusal;
-ghost use Rattle.esa_encoder.specs.Line.{head_of};
-ghost use Rattle.esa_encoder.specs.Encoded.{nonce_of, envelope_of, submission_of, submissions, line_refused, first_refused, encoded};
+ghost use Rattle.esa_line.specs.Line.{head_of};
+ghost use Rattle.esa_encoder.specs.Encoded.{nonce_of, envelope_of, submission_of, submissions, line_refused, first_refused, encoded, encoded_by};
+ghost use Rattle.esa_encoder.specs.Report.{itself};
 
 use crate::report::report_in;
 use crate::seal::{put_hex, seal_report};
-use esa_bytes::line_at;
+use crate::shape::{Itself, ROOM, Shaper};
 use esa_envelope::{Keys, Prepared, prepare};
-use esa_line::{LineRefused, line_count};
-use esa_params::Form;
+use esa_line::{LineRefused, line_count, split_line};
+use esa_params::{Form, MOST_RECORDS};
 use std::alloc::{AllocError, Global};
-
-/// The most lines that are encoded at once.
-const MOST_LINES: u64 = 262_144;
 
 /// The length of the longest outer envelope, in bytes: that of form Two.
 const ENVELOPE: usize = 304;
@@ -76,8 +74,8 @@ pub fn encode_line(
 ) -> Result<Meta, LineRefused>
     requires { length out.old ≡ 2 * envelope_length form }
     ensures refusal { MatchResult result
-        (λ meta. line_refused form number line.now ≡ None) (λ refused. line_refused form number line.now ≡ Some refused) }
-    ensures digits { OnOk result (out.new ≡ encode_lower (envelope_of form outer.now inner.now nonce line.now)) }
+        (λ meta. line_refused itself form number nonce line.now ≡ None) (λ refused. line_refused itself form number nonce line.now ≡ Some refused) }
+    ensures digits { OnOk result (out.new ≡ encode_lower (envelope_of itself form outer.now inner.now nonce line.now)) }
     ensures head { IfOk result (λ meta. meta.head ≡ length (head_of line.now)) }
     ensures front { IfOk result (λ meta. take meta.head line.now ≡ head_of line.now) }
     ensures same { OnErr result (out.new ≡ out.old) }
@@ -105,24 +103,55 @@ pub fn encode_line_with(
 ) -> Result<Meta, LineRefused>
     requires { length out.old ≡ 2 * envelope_length form }
     ensures refusal { MatchResult result
-        (λ meta. line_refused form number line.now ≡ None) (λ refused. line_refused form number line.now ≡ Some refused) }
-    ensures digits { OnOk result (out.new ≡ encode_lower (envelope_of form outer.now inner.now nonce line.now)) }
+        (λ meta. line_refused itself form number nonce line.now ≡ None) (λ refused. line_refused itself form number nonce line.now ≡ Some refused) }
+    ensures digits { OnOk result (out.new ≡ encode_lower (envelope_of itself form outer.now inner.now nonce line.now)) }
     ensures head { IfOk result (λ meta. meta.head ≡ length (head_of line.now)) }
     ensures front { IfOk result (λ meta. take meta.head line.now ≡ head_of line.now) }
     ensures same { OnErr result (out.new ≡ out.old) }
 {
-    let fields = match report_in(form, line) {
-        Ok(fields) => fields,
+    shape_line(form, line, number, outer, inner, nonce, &Itself, out)
+}
+
+/// Seals as [`encode_line_with`] does, with what is sent in place of the value.
+fn shape_line<H: Shaper>(
+    form: Form,
+    line: &[u8],
+    number: u64,
+    outer: &Prepared,
+    inner: &Prepared,
+    nonce: u64,
+    shaper: &H,
+    out: &mut [u8],
+) -> Result<Meta, LineRefused>
+    requires { length out.old ≡ 2 * envelope_length form }
+    ensures refusal { MatchResult result
+        (λ meta. line_refused (H.shape shaper.now) form number nonce line.now ≡ None) (λ refused. line_refused (H.shape shaper.now) form number nonce line.now ≡ Some refused) }
+    ensures digits { OnOk result (out.new ≡ encode_lower (envelope_of (H.shape shaper.now) form outer.now inner.now nonce line.now)) }
+    ensures head { IfOk result (λ meta. meta.head ≡ length (head_of line.now)) }
+    ensures front { IfOk result (λ meta. take meta.head line.now ≡ head_of line.now) }
+    ensures same { OnErr result (out.new ≡ out.old) }
+{
+    let mut sent = [0; ROOM];
+    let shaped = match report_in(form, line, nonce, shaper, &mut sent) {
+        Ok(shaped) => shaped,
         Err(cause) => return Err(LineRefused {
             line: number,
             cause,
         }),
     };
+    let fields = shaped.fields;
     let crowd = &line[fields.head.length..fields.crowd_end];
-    let value = &line[fields.crowd_end + 1..];
     let end = form.envelope() as usize;
     let mut sealed = [0; ENVELOPE];
-    seal_report(form, outer, inner, nonce, crowd, value, &mut sealed[..end]);
+    seal_report(
+        form,
+        outer,
+        inner,
+        nonce,
+        crowd,
+        &sent[..shaped.length],
+        &mut sealed[..end],
+    );
     put_hex(&sealed[..end], out);
     Ok(Meta {
         head: fields.head.length,
@@ -140,7 +169,7 @@ fn add_parts(out: &mut Vec<u8>, head: &[u8], digits: &[u8]) -> Result<(), AllocE
 }
 
 /// Adds the submission of a line, with its newline.
-fn add_line(
+fn add_line<H: Shaper>(
     out: &mut Vec<u8>,
     form: Form,
     line: &[u8],
@@ -148,51 +177,87 @@ fn add_line(
     outer: &Prepared,
     inner: &Prepared,
     base: u64,
+    shaper: &H,
 ) -> Result<(), EncodeRefused>
     ensures added { OnOk result (out.new.items
-        ≡ out.old.items ++ (submission_of form outer.now inner.now (nonce_of base number) line.now ++ 10 ∷ [])) }
-    ensures accepted { OnOk result (line_refused form number line.now ≡ None) }
-    ensures refused { IfErr result (λ e. (e ≡ refusal.OutOfMemory) ⊎ (option_map refusal.Line (line_refused form number line.now) ≡ Some e)) }
+        ≡ out.old.items ++ (submission_of (H.shape shaper.now) form outer.now inner.now (nonce_of base number) line.now ++ 10 ∷ [])) }
+    ensures accepted { OnOk result (line_refused (H.shape shaper.now) form number (nonce_of base number) line.now ≡ None) }
+    ensures refused { IfErr result (λ e. (e ≡ refusal.OutOfMemory)
+        ⊎ (option_map refusal.Line (line_refused (H.shape shaper.now) form number (nonce_of base number) line.now) ≡ Some e)) }
 {
     let mut digits = [0; DIGITS];
     let end = 2 * form.envelope() as usize;
     let nonce = base.wrapping_add(number);
-    let meta = encode_line_with(form, line, number, outer, inner, nonce, &mut digits[..end])?;
+    let meta = shape_line(
+        form,
+        line,
+        number,
+        outer,
+        inner,
+        nonce,
+        shaper,
+        &mut digits[..end],
+    )?;
     add_parts(out, &line[..meta.head], &digits[..end])?;
     Ok(())
 }
 
 /// Adds the submissions of all lines.
-fn add_lines(
+fn add_lines<H: Shaper>(
     out: &mut Vec<u8>,
     form: Form,
     reports: &[u8],
     outer: &Prepared,
     inner: &Prepared,
     base: u64,
+    shaper: &H,
 ) -> Result<(), EncodeRefused>
     ensures added { OnOk result (out.new.items
-        ≡ out.old.items ++ submissions form outer.now inner.now base 1 (text_lines reports.now)) }
-    ensures accepted { OnOk result (first_refused form 1 (text_lines reports.now) ≡ None) }
+        ≡ out.old.items ++ submissions (H.shape shaper.now) form outer.now inner.now base 1 (text_lines reports.now)) }
+    ensures accepted { OnOk result (first_refused (H.shape shaper.now) form base 1 (text_lines reports.now) ≡ None) }
     ensures refused { IfErr result (λ e. (e ≡ refusal.OutOfMemory)
-        ⊎ (option_map refusal.Line (first_refused form 1 (text_lines reports.now)) ≡ Some e)) }
+        ⊎ (option_map refusal.Line (first_refused (H.shape shaper.now) form base 1 (text_lines reports.now)) ≡ Some e)) }
 {
-    let mut at = 0;
+    let mut rest = reports;
     let mut number = 0;
-    while let Some(line) = line_at(reports, at) {
+    while let Some((line, behind)) = split_line(rest) {
         number += 1;
-        add_line(
-            out,
-            form,
-            &reports[line.start..line.end],
-            number,
-            outer,
-            inner,
-            base,
-        )?;
-        at = line.next;
+        add_line(out, form, line, number, outer, inner, base, shaper)?;
+        rest = behind;
     }
     Ok(())
+}
+
+/// Encodes as [`encode`] does, with what the shaper gives in place of each value. A line for which it gives nothing, or
+/// more than a report of the form carries, is refused as one whose value is too long.
+pub fn encode_by<H: Shaper>(
+    alloc: Global,
+    form: Form,
+    reports: &[u8],
+    outer: &Keys,
+    inner: &Keys,
+    base: u64,
+    shaper: &H,
+) -> Result<Vec<u8>, EncodeRefused>
+    ensures { MatchResult result (λ bytes. encoded_by (H.shape shaper.now) form outer.now inner.now base reports.now ≡ Ok bytes.items)
+        (λ refused. (refused ≡ refusal.OutOfMemory) ⊎ (encoded_by (H.shape shaper.now) form outer.now inner.now base reports.now ≡ Err refused)) }
+{
+    let count = line_count(reports);
+    if count > u64::from(MOST_RECORDS) {
+        return Err(EncodeRefused::TooMany { n: count });
+    }
+    let line = 2 * form.envelope() as usize + 1;
+    let mut out = Vec::with_capacity(alloc, reports.len() + count as usize * line)?;
+    add_lines(
+        &mut out,
+        form,
+        reports,
+        &prepare(outer),
+        &prepare(inner),
+        base,
+        shaper,
+    )?;
+    Ok(out)
 }
 
 /// Encodes a file of reports: line by line, the report is sealed twice. Line n, counted from 1, has the nonce
@@ -210,19 +275,5 @@ pub fn encode(
     ensures { MatchResult result (λ bytes. encoded form outer.now inner.now base reports.now ≡ Ok bytes.items)
         (λ refused. (refused ≡ refusal.OutOfMemory) ⊎ (encoded form outer.now inner.now base reports.now ≡ Err refused)) }
 {
-    let count = line_count(reports);
-    if MOST_LINES < count {
-        return Err(EncodeRefused::TooMany { n: count });
-    }
-    let line = 2 * form.envelope() as usize + 1;
-    let mut out = Vec::with_capacity(alloc, reports.len() + count as usize * line)?;
-    add_lines(
-        &mut out,
-        form,
-        reports,
-        &prepare(outer),
-        &prepare(inner),
-        base,
-    )?;
-    Ok(out)
+    encode_by(alloc, form, reports, outer, inner, base, &Itself)
 }

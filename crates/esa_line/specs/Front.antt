@@ -1,5 +1,5 @@
 -- The front of a line: a moment, a tab, a sender, a tab.
-use Rattle.std.specs.Prelude.{ℕ, ◌+◌, ◌==◌, nat_le, Bool, ◌&&◌, if◌then◌else◌, List, length, take, drop, position, Option, Result, Ok, Err, is_some, option_map}
+use Rattle.std.specs.Prelude.{ℕ, ◌==◌, nat_le, Bool, ◌&&◌, if◌then◌else◌, List, length, Result, Ok, Err, is_some}
 use Rattle.std.specs.Char.{is_ascii_graphic}
 use Rattle.std.specs.List.{list_all}
 use Rattle.esa_bytes.specs.Decimal.{decimal_in}
@@ -8,10 +8,6 @@ use Rattle.esa_line.specs.declared.refused.LineCause.TheVariants.{BadMoment, Bad
 
 abbrev pub is_tab : ℕ → Bool
 is_tab byte = byte == 9
-
--- the bytes before the first tab, and those behind it
-abbrev pub split_in : List ℕ → Option (List ℕ × List ℕ)
-split_in line = option_map (λ place. (take place line, drop (place + 1) line)) (position is_tab line)
 
 -- 1 to 64 bytes from 0x21 to 0x7e
 abbrev pub is_sender : List ℕ → Bool

@@ -1,30 +1,12 @@
-//! The front of a line.
+//! What a moment and a sender are.
 
-ghost use Rattle.std.specs.Prelude.{◌≡◌, ◌<◌, length, option_map, position, IfSome};
+ghost use Rattle.std.specs.Prelude.{◌≡◌};
 ghost use Rattle.std.specs.Char.{is_ascii_graphic};
 ghost use Rattle.std.specs.List.{list_all};
-ghost use Rattle.esa_line.specs.Front.{is_tab, split_in, front_in, is_sender};
+ghost use Rattle.esa_line.specs.Front.{front_in, is_sender};
 
 use crate::LineCause;
 use esa_bytes::decimal;
-
-/// The bytes before the first tab, and those behind it. None where there is no tab.
-pub fn split_tab(line: &[u8]) -> Option<(&[u8], &[u8])>
-    ensures { option_map (λ parts. (parts.0.now, parts.1.now)) result ≡ split_in line.now }
-{
-    match tab_place(line) {
-        Some(place) => Some((&line[..place], &line[place + 1..])),
-        None => None,
-    }
-}
-
-/// The place of the first tab.
-fn tab_place(line: &[u8]) -> Option<usize>
-    ensures place { result ≡ position is_tab line.now }
-    ensures within { IfSome result (λ place. place < length line.now) }
-{
-    line.iter().position(|byte| *byte == b'\t')
-}
 
 /// Whether these bytes name a sender: 1 to 64 bytes from 0x21 to 0x7e.
 fn names_sender(sender: &[u8]) -> bool
@@ -41,7 +23,7 @@ fn is_graphic(text: &[u8]) -> bool
 }
 
 /// Refuses a line for its moment, or else for its sender.
-pub fn check_front(moment: &[u8], sender: &[u8]) -> Result<(), LineCause>
+pub(crate) fn check_front(moment: &[u8], sender: &[u8]) -> Result<(), LineCause>
     ensures { result ≡ front_in moment.now sender.now }
 {
     if decimal(moment).is_none() {

@@ -5,9 +5,10 @@
 #![tactic(auto)]
 
 mod front;
+mod head;
 mod lines;
 mod refused;
 
-pub use front::{check_front, split_tab};
+pub use head::{Head, head_cause, head_in, tab_place};
 pub use lines::{line_count, split_line};
 pub use refused::{LineCause, LineRefused};

@@ -4,3 +4,4 @@ pub mod TableLaws
 pub mod ColumnLaws
 pub mod SecretLaws
 pub mod NewtonSteps
+pub mod ShareSteps

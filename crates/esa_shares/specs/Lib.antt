@@ -1,3 +1,5 @@
 pub mod Field
 pub mod Polynomial
 pub mod Newton
+pub mod Share
+pub mod Inside

@@ -1,6 +1,6 @@
 use Rattle.std.proofs.Common.{◌≡◌, ◌∙◌, ◌≤◌, ◌<◌, ℕ, true, false, sym, refl, arith, inl, inr}
 use Rattle.std.proofs.lemmas.Bool.{cases_lt}
-use Rattle.esa_encoder.proofs.TabLemmas.{third_missing, third_found}
+use Rattle.esa_line.proofs.TabLemmas.{third_missing, third_found}
 use Rattle.esa_encoder.proofs.report.fields_in.Goals as goal
 
 not_below : (n : ℕ) → (n < 2 → true ≡ false) → 2 ≤ n

@@ -1,0 +1,4 @@
+pub mod FedLaws
+pub mod HeldLaws
+pub mod ImportLaws
+pub mod Orders

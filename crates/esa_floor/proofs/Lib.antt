@@ -1,0 +1,6 @@
+mod Counting
+mod Exchanging
+mod Opening
+mod Sealing
+mod Spreading
+mod Turning

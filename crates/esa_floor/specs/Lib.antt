@@ -1,0 +1,5 @@
+pub mod Exchanges
+pub mod Marks
+pub mod Parts
+pub mod Private
+pub mod Standing

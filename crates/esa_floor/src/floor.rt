@@ -1,0 +1,301 @@
+//! A floor: what the turns of a run work on.
+
+ghost use Rattle.std.specs.Prelude.{◌≡◌, ℕ, ◌+◌, ◌*◌, ◌<◌, ◌≤◌, ◌↔◌, [], Some, None, IsTrue, IfOk, IfErr, IsOk, OnOk, OnErr, length};
+ghost use Rattle.esa_params.specs.Slots.{greatest_trace};
+ghost use Rattle.esa_spec.specs.Draws.{drawn};
+ghost use Rattle.esa_stash.specs.Stash.{empty_stash, padded, queue_at, without};
+ghost use Rattle.esa_floor.specs.Parts.{begun_as, count_at, ended_as, no_counts, nothing_counted};
+ghost use Rattle.esa_floor.specs.Standing.{Stands};
+
+use crate::exchanger::Exchanger;
+use crate::told::Told;
+use crate::turn::{Outcome, Stop};
+use esa_device::{Device, Recorder};
+use esa_envelope::Keys;
+use esa_params::Plan;
+use esa_report::Item;
+use esa_spec::Coins;
+use esa_stash::Left;
+use std::alloc::Global;
+use std::marker::{Model, PhantomData};
+
+/// What never changes in a floor. No value of it is made.
+pub struct Roots {
+    /// The plan.
+    pub plan: Plan,
+    /// The keys of the outer envelopes.
+    pub outer: Keys,
+    /// The keys of the blocks.
+    pub run: Keys,
+    /// How many entries the history has room for.
+    pub room: usize,
+    /// The device's count of faults when the floor was made.
+    pub faults: u64,
+}
+
+/// What the turns of a run work on: the recorder of the device, the history of all turns, and of the attempt at work the
+/// stash, the counts of the chunks, and why its turns have stopped.
+///
+/// It is of a plan and of draws, `G`, which no value keeps. It stands for its history where the history decides all that
+/// it holds.
+pub struct Floor<V: Device, G: Told> {
+    outer: Keys,
+    run: Keys,
+    recorder: Recorder<V>,
+    faults: u64,
+    history: Vec<u32>,
+    exchanger: Exchanger,
+    claims: u32,
+    writes: u32,
+    attempt: Option<u32>,
+    stop: Option<Stop>,
+    outcome: Option<Outcome>,
+    of: PhantomData<G>,
+}
+
+impl<V: Device, G: Told> Model for Floor<V, G> {
+    ghost use Rattle.std.specs.Prelude.{vec_capacity};
+    ghost use Rattle.esa_floor.specs.Parts.{Parts};
+
+    ghost Value = { Parts V };
+
+    ghost view = { λ f. record {
+      plan = f.exchanger.plan;
+      outer = f.outer;
+      run = f.run;
+      recorder = f.recorder;
+      faults = f.faults;
+      history = f.history.items;
+      room = vec_capacity f.history;
+      stash = f.exchanger.stash;
+      counts = f.exchanger.counts;
+      counted = record { claims = f.claims; writes = f.writes };
+      attempt = f.attempt;
+      stop = f.stop;
+      outcome = f.outcome;
+    } };
+}
+
+/// There is no memory for a floor. The recorder comes back.
+#[derive(Drop)]
+pub struct NoFloor<V: Device> {
+    pub recorder: Recorder<V>,
+}
+
+/// The entries of a history, seen as their list.
+#[derive(Drop)]
+pub struct History {
+    entries: Vec<u32>,
+}
+
+impl Model for History {
+    ghost use Rattle.std.specs.Prelude.{List, ℕ};
+
+    ghost Value = { List ℕ };
+
+    ghost view = { λ h. h.entries.items };
+}
+
+impl History {
+    /// The entries, the oldest first.
+    pub fn entries(&self) -> &[u32]
+        ensures { result.now ≡ self.now }
+    {
+        &self.entries
+    }
+}
+
+/// What a floor is given up for.
+#[derive(Drop)]
+pub struct Given<V: Device> {
+    pub recorder: Recorder<V>,
+    pub history: History,
+    pub outcome: Option<Outcome>,
+}
+
+impl<V: Device, G: Told> Floor<V, G> {
+    /// A floor with room for so many entries. The recorder is ready for the plan and has made no access.
+    pub fn make<C: Coins>(
+        alloc: Global,
+        plan: Plan,
+        outer: Keys,
+        run: Keys,
+        coins: &C,
+        recorder: Recorder<V>,
+        turns: u64,
+    ) -> Result<Floor<V, G>, NoFloor<V>>
+        requires coins { C.plan coins.now ≡ plan }
+        requires plan { G.plan ≡ plan }
+        requires draws { (a : ℕ) → G.draws a ≡ drawn (C.target_list coins.now) (C.order_list coins.now) a }
+        requires ready { recorder.plan ≡ Some plan }
+        requires trace { recorder.trace ≡ [] }
+        requires room { greatest_trace plan ≤ recorder.room }
+        ensures stands { IfOk result (λ f. Stands V.faults G.plan G.draws f) }
+        ensures parts { IfOk result (λ f. f ≡ record {
+          plan = plan;
+          outer = outer;
+          run = run;
+          recorder = recorder;
+          faults = V.faults recorder.device;
+          history = [];
+          room = turns;
+          stash = empty_stash plan.b plan.c plan.s;
+          counts = no_counts plan.b;
+          counted = nothing_counted;
+          attempt = None;
+          stop = None;
+          outcome = None;
+        }) }
+        ensures given_back { IfErr result (λ e. e.recorder ≡ recorder) }
+    {
+        let faults = recorder.faults();
+        let Ok(exchanger) = Exchanger::make(alloc, plan) else {
+            return Err(NoFloor { recorder });
+        };
+        let Ok(history) = Vec::with_capacity(alloc, turns as usize) else {
+            return Err(NoFloor { recorder });
+        };
+        Ok(Floor {
+            outer,
+            run,
+            recorder,
+            faults,
+            history,
+            exchanger,
+            claims: 0,
+            writes: 0,
+            attempt: None,
+            stop: None,
+            outcome: None,
+            of: PhantomData,
+        })
+    }
+
+    /// Begins an attempt: the owner's entry is added, and nothing is queued, counted or stopped.
+    pub fn begin(&mut self, attempt: u32)
+        requires room { length self.old.history < self.old.room }
+        requires stands { Stands V.faults G.plan G.draws (begun_as self.old attempt) }
+        ensures begun { self.new ≡ begun_as self.old attempt }
+        ensures stands { Stands V.faults G.plan G.draws self.new }
+    {
+        let owner = self.exchanger.plan().workers();
+        self.history.push_reserved(owner);
+        self.exchanger.begin();
+        self.claims = 0;
+        self.writes = 0;
+        self.attempt = Some(attempt);
+        self.stop = None;
+    }
+
+    /// Ends the run: the owner's entry is added, and the outcome is kept.
+    pub fn end(&mut self, outcome: Outcome)
+        requires room { length self.old.history < self.old.room }
+        requires stands { Stands V.faults G.plan G.draws (ended_as self.old outcome) }
+        ensures ended { self.new ≡ ended_as self.old outcome }
+        ensures stands { Stands V.faults G.plan G.draws self.new }
+    {
+        let owner = self.exchanger.plan().workers();
+        self.history.push_reserved(owner);
+        self.attempt = None;
+        self.outcome = Some(outcome);
+    }
+
+    /// The turns and the owner's entries, the oldest first.
+    pub fn history(&self) -> &[u32]
+        ensures { result.now ≡ self.now.history }
+    {
+        &self.history
+    }
+
+    /// The attempt at work.
+    pub fn attempt(&self) -> Option<u32>
+        ensures { result ≡ self.now.attempt }
+    {
+        self.attempt
+    }
+
+    /// Why the turns of the attempt have stopped.
+    pub fn stop(&self) -> Option<Stop>
+        ensures { result ≡ self.now.stop }
+    {
+        self.stop
+    }
+
+    /// How the run ended.
+    pub fn outcome(&self) -> Option<Outcome>
+        ensures { result ≡ self.now.outcome }
+    {
+        self.outcome
+    }
+
+    /// Whether all chunks were written.
+    pub fn spread(&self) -> bool
+        ensures { IsTrue result ↔ (self.now.counted.writes ≡ self.now.plan.b * self.now.plan.b) }
+    {
+        let b = self.exchanger.plan().b();
+        self.writes == b * b
+    }
+
+    /// How many items the chunk of a bucket for a target has.
+    pub fn count(&self, bucket: u32, target: u32) -> u32
+        requires bucket { bucket < self.now.plan.b }
+        requires target { target < self.now.plan.b }
+        ensures { result ≡ count_at self.now.plan.b self.now.counts bucket target }
+    {
+        self.exchanger.count(bucket, target)
+    }
+
+    /// Moves a target's queue to `out`, in order, with dummies behind it. `Left` comes exactly where the queue is longer,
+    /// and then all is as before.
+    pub fn spill(&mut self, target: u32, out: &mut [Item]) -> Result<u32, Left>
+        requires { target < self.old.plan.b }
+        ensures fits { IsOk result ↔ (length (queue_at self.old.stash target) ≤ length out.old) }
+        ensures moved { OnOk result (out.new ≡ padded (length out.old) (queue_at self.old.stash target)) }
+        ensures count { IfOk result (λ count. count ≡ length (queue_at self.old.stash target)) }
+        ensures emptied { OnOk result (self.new ≡ record self.old { stash = without self.old.stash target }) }
+        ensures left { IfErr result (λ left. left.held ≡ length (queue_at self.old.stash target)) }
+        ensures unchanged { OnErr result (self.new ≡ self.old) }
+        ensures out_unchanged { OnErr result (out.new ≡ out.old) }
+    {
+        self.exchanger.spill(target, out)
+    }
+
+    /// Gives the floor up.
+    pub fn give(self) -> Given<V>
+        ensures { result ≡ record { recorder = self.recorder; history = self.history; outcome = self.outcome } }
+    {
+        let Floor {
+            outer: _,
+            run: _,
+            recorder,
+            faults: _,
+            history,
+            exchanger: _,
+            claims: _,
+            writes: _,
+            attempt: _,
+            stop: _,
+            outcome,
+            of: _,
+        } = self;
+        Given {
+            recorder,
+            history: History { entries: history },
+            outcome,
+        }
+    }
+}
+
+impl<V: Device, G: Told> Floor<V, G> {
+    ghost use Rattle.std.specs.Borrow.{Lends, sem};
+    ghost use Rattle.esa_device.specs.contracts.recorder.Recorder.{the_row as recorder_row};
+    ghost use Rattle.esa_floor.specs.contracts.floor.Floor.{the_row};
+
+    /// Lends the recorder. Whatever is written through it, all else stays as it was.
+    pub fn recorder(&mut self) -> &mut Recorder<V>
+        ensures* lends { sem 𝓛 (Lends (the_row V.row G.row V.Device G.Told) (recorder_row V.row V.Device) self.entry result (λ w. record self.old { recorder = w })) }
+        ensures value { result.now ≡ self.old.recorder }
+    {
+        &mut self.recorder
+    }
+}
