@@ -68,12 +68,14 @@ def main():
     parser.add_argument("--all", action="store_true", help="each crate")
     words = parser.parse_args()
     every = crates_with_edits()
-    lacking = [name for name in words.names if name not in every]
-    if lacking:
-        raise SystemExit(f"there is no folder crates/{lacking[0]}/more-edits")
+    for name in words.names:
+        if not os.path.isdir(os.path.join(TOP, "crates", name)):
+            raise SystemExit(f"there is no crate {name}")
+        if name not in every:
+            print(f"{name}: all its edits are the gate's")
     since = changed_since(words.since) if words.since else set()
     names = [name for name in every if words.all or name in words.names or name in since]
-    if not names and not words.since:
+    if not (words.all or words.names or words.since):
         parser.error("name a crate, or give --since or --all")
     told = {}
     with tempfile.TemporaryDirectory(prefix="esa-edits-") as room:

@@ -26,6 +26,3 @@ pub use db::{Db, read_db};
 pub use print::histogram;
 pub use refused::DbRefused;
 pub use write::write_db;
-
-#[cfg(test)]
-mod tests;

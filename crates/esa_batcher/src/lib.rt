@@ -28,6 +28,3 @@ pub use lines::gather;
 pub use read::read_batch;
 pub use refused::{AddRefused, BatchRefused};
 pub use scan::{ScanRefused, Scanned, scan_batch};
-
-#[cfg(test)]
-mod tests;

@@ -1,14 +1,9 @@
 // Drawn numbers are those that `tests/draw.py` draws from the published algorithms.
 use crate::check::import_places;
-use crate::{
-    AnyCoins, Coins, CoinsRefused, Draw, SeededCoins, TableCoins, order_holds, targets_hold,
-};
+use crate::{AnyCoins, Coins, Draw, SeededCoins, TableCoins, order_holds, targets_hold};
 use esa_params::{Form, Params, Plan, check};
 use std::alloc::{AllocError, Global};
 use std::test::Fail;
-use tables::{FILES, GOOD, OPEN};
-
-mod tables;
 
 fn plan_of(b: u64, c: u64, k: u64, attempts: u64, n: u32) -> Option<Plan> {
     let params = Params {
@@ -224,77 +219,6 @@ fn coins_hold(rt: HostRuntime) -> Result<(), Fail> {
 // Four records in two buckets, with three places of an import.
 fn small_plan(attempts: u64) -> Option<Plan> {
     plan_of(2, 1, 1, attempts, 4)
-}
-
-// What reading a file comes to: `accepted`, or the refusal.
-fn answer(alloc: Global, plan: Plan, bytes: &[u8]) -> Result<String, AllocError> {
-    match TableCoins::read(alloc, bytes, plan) {
-        Ok(_) => String::from_str(alloc, "accepted"),
-        Err(CoinsRefused::Shape) => String::from_str(alloc, "shape"),
-        Err(CoinsRefused::Targets(attempt)) => format!(in alloc; "targets {attempt}"),
-        Err(CoinsRefused::Target { attempt, place }) => {
-            format!(in alloc; "target {attempt} {place}")
-        }
-        Err(CoinsRefused::Order { attempt, bucket }) => {
-            format!(in alloc; "order {attempt} {bucket}")
-        }
-        Err(CoinsRefused::OutOfMemory) => Err(AllocError),
-    }
-}
-
-#[test]
-fn each_refusal_and_two_at_once(rt: HostRuntime) -> Result<(), Fail> {
-    for line in FILES.lines() {
-        let (attempts, rest) = line.split_once('|').ok_or("a number of attempts")?;
-        let (wanted, file) = rest.split_once('|').ok_or("an answer")?;
-        let plan = small_plan(attempts.parse::<u64>()?).ok_or("a plan")?;
-        let found = answer(rt.alloc(), plan, file.as_bytes())?;
-        assert_eq!(rt; found.as_str(), wanted, "{line}");
-    }
-    Ok(())
-}
-
-// The coins in which the order of target 0 names place 0 twice.
-#[test]
-fn coins_of_first_refusals(rt: HostRuntime) -> Result<(), Fail> {
-    let plan = small_plan(1).ok_or("a plan")?;
-    let file = br#"{"attempts":[{"targets":[0,0,1,0],"orders":[[0,0,1],[0,1,2]]}]}"#;
-    assert_eq!(rt;
-        answer(rt.alloc(), plan, file.as_slice())?.as_str(),
-        "order 0 0"
-    );
-    Ok(())
-}
-
-// The front of a coins file is none.
-#[test]
-fn prefixes_of_a_coins_file(rt: HostRuntime) -> Result<(), Fail> {
-    let plan = small_plan(1).ok_or("a plan")?;
-    let file = GOOD.as_bytes();
-    for length in 0..file.len() {
-        let found = answer(rt.alloc(), plan, &file[..length])?;
-        assert_eq!(rt; found.as_str(), "shape", "{length}");
-    }
-    assert_eq!(rt; answer(rt.alloc(), plan, file)?.as_str(), "accepted");
-    Ok(())
-}
-
-#[test]
-fn at_most_127_deep(rt: HostRuntime) -> Result<(), Fail> {
-    let plan = small_plan(1).ok_or("a plan")?;
-    for (depth, wanted) in [(2, "accepted"), (127, "accepted"), (128, "shape")] {
-        let mut text = Vec::new(rt.alloc());
-        text.extend_from_slice(OPEN.as_bytes())?;
-        for _ in 1..depth {
-            text.push(b'[')?;
-        }
-        for _ in 1..depth {
-            text.push(b']')?;
-        }
-        text.push(b'}')?;
-        assert_eq!(rt; answer(rt.alloc(), plan, text.as_slice())?.as_str(), wanted);
-    }
-    Ok(())
 }
 
 #[test]

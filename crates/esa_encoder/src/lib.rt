@@ -10,8 +10,6 @@ mod report;
 mod seal;
 mod shape;
 mod submission;
-#[cfg(test)]
-mod tests;
 
 pub use nonces::nonces_are_distinct;
 pub use shape::Shaper;

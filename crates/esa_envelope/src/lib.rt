@@ -9,8 +9,6 @@ mod envelope;
 mod keys;
 mod keystream;
 mod label;
-#[cfg(test)]
-mod tests;
 
 pub use envelope::{
     Prepared, nonce_of, prepare, seal, seal_and_open, seal_with, unseal, unseal_with,

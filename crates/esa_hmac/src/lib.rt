@@ -6,7 +6,5 @@
 
 mod key;
 mod mac;
-#[cfg(test)]
-mod tests;
 
 pub use mac::{Mac, derive, hmac};

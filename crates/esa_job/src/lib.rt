@@ -13,8 +13,6 @@ mod drops;
 mod field;
 mod job;
 mod keys;
-#[cfg(test)]
-mod tests;
 mod value;
 
 pub use command::{Command, command_of};

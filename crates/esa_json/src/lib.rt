@@ -42,6 +42,3 @@ fn only_object(value: Value) -> Option<Value>
 {
     if value.is_object() { Some(value) } else { None }
 }
-
-#[cfg(test)]
-mod tests;

@@ -25,6 +25,3 @@ pub use forecast::Forecast;
 pub use predictor::Predictor;
 pub use stored::StoredCoins;
 pub use turns::{Turns, TurnsRefused};
-
-#[cfg(test)]
-mod tests;

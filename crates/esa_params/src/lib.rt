@@ -27,6 +27,3 @@ pub use limits::{
 pub use params::{Params, ParamsRefused, Settings, check};
 pub use plan::Plan;
 pub use slot::{Access, Op, Region, Slot};
-
-#[cfg(test)]
-mod tests;

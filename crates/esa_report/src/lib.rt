@@ -7,8 +7,6 @@
 mod crowd;
 mod item;
 mod report;
-#[cfg(test)]
-mod tests;
 mod zero;
 
 pub use crowd::crowd_of;

@@ -11,6 +11,3 @@ mod refused;
 pub use envelopes::{Envelopes, Forwarded};
 pub use forward::{forward_header, read_forward};
 pub use refused::ForwardRefused;
-
-#[cfg(test)]
-mod tests;

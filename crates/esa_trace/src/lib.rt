@@ -12,6 +12,3 @@ mod write;
 
 pub use fits::traces_fit;
 pub use write::write_trace;
-
-#[cfg(test)]
-mod tests;

@@ -1,0 +1,55 @@
+#!/usr/bin/env python3
+"""Seals reports without esa, for the expected bytes of worked cases.
+
+    bench/seal.py inner --inner MASTER --nonce N VALUE
+    bench/seal.py outer --inner MASTER --outer MASTER --nonce N CROWD VALUE
+
+prints an inner envelope, or the outer one that a submission carries, as lines of 32 bytes that a case takes as they
+are. A master has 64 hexadecimal digits; 0 stands for zero bytes. With --epoch N the form is Two, and the masters are
+those of that epoch. HMAC and SHA-256 are those of Python's library; ChaCha20 stands in demo/make_forward.py.
+"""
+
+import argparse
+import hashlib
+import os
+import struct
+import sys
+
+sys.path.insert(0, os.path.join(os.path.dirname(os.path.abspath(__file__)), "..", "demo"))
+from make_forward import mac, seal
+
+
+def master_of(digits, epoch):
+    """A master, or that of an epoch."""
+    master = bytes(32) if digits == "0" else bytes.fromhex(digits)
+    return master if epoch is None else mac(master, b"epoch:" + struct.pack(">I", epoch))
+
+
+def report(value, epoch):
+    """The spelling of a value as a report of the form."""
+    length = 64 if epoch is None else 192
+    return (struct.pack(">H", len(value)) + value).ljust(length, b"\0")
+
+
+def main():
+    parser = argparse.ArgumentParser(description=__doc__.splitlines()[0])
+    parser.add_argument("kind", choices=["inner", "outer"])
+    parser.add_argument("texts", nargs="+", metavar="TEXT", help="the value, or the crowd and the value")
+    parser.add_argument("--inner", default="0")
+    parser.add_argument("--outer", default="0")
+    parser.add_argument("--nonce", type=int, required=True)
+    parser.add_argument("--epoch", type=int)
+    words = parser.parse_args()
+    *crowd, value = [text.encode() for text in words.texts]
+    if len(crowd) != (words.kind == "outer"):
+        parser.error("an inner envelope is of a value, and an outer one of a crowd and a value")
+    envelope = seal(master_of(words.inner, words.epoch), b"inner", words.nonce, report(value, words.epoch))
+    if crowd:
+        plain = hashlib.sha256(crowd[0]).digest() + envelope
+        envelope = seal(master_of(words.outer, words.epoch), b"outer", words.nonce, plain)
+    for at in range(0, len(envelope), 32):
+        print("  hex", envelope[at:at + 32].hex())
+
+
+if __name__ == "__main__":
+    main()

@@ -1,0 +1,56 @@
+//! Worked cases as text that a person writes: what a case is, and how a file of cases is read.
+//!
+//! docs/TESTING.md has the form. Stands on the kit's `hex` alone, so that a case can be of any command. It promises
+//! nothing but to be safe and to end: a file that isn't in the form is refused, and a program that runs its cases
+//! compares each with what it says.
+#![tactic(auto)]
+
+mod piece;
+mod reader;
+mod statement;
+mod wrong;
+
+pub use reader::read_cases;
+pub use wrong::{Mistake, Wrong};
+
+/// A file's name and its bytes.
+#[derive(Drop)]
+pub struct File {
+    pub name: String,
+    pub bytes: Vec<u8>,
+}
+
+/// What a run calls.
+#[derive(Clone, Copy, PartialEq, Eq, Debug)]
+pub enum Call {
+    /// The program.
+    Program,
+    /// A reader of one file.
+    Reader,
+}
+
+/// One call: what is called with which words, and what it must print and end with.
+#[derive(Drop)]
+pub struct Run {
+    pub call: Call,
+    pub words: Vec<String>,
+    pub printed: Vec<u8>,
+    pub status: u8,
+}
+
+/// Calls, one after another over the same files, and what they must leave.
+///
+/// Of two files of one name the later counts. What no file of `left` names must be as it was before the first call.
+#[derive(Drop)]
+pub struct Case {
+    pub name: String,
+    /// The files before the first call.
+    pub files: Vec<File>,
+    /// The numbers of the cabinet's calls that fail, from 1 on.
+    pub cabinet_fails: Vec<u64>,
+    /// The numbers of the printer's calls that fail, from 1 on.
+    pub printer_fails: Vec<u64>,
+    pub runs: Vec<Run>,
+    /// The files that the calls must leave otherwise than they were before.
+    pub left: Vec<File>,
+}

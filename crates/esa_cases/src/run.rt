@@ -1,0 +1,130 @@
+//! Runs a case.
+
+use crate::compare::{difference, difference_of_bytes};
+use crate::readers::{read, reading_of};
+use esa_case_file::{Call, Case, File, Run};
+use esa_cli::{Status, esa_plain, tell};
+use esa_outside::{MemCabinet, MemPrinter};
+use std::alloc::{AllocError, Global};
+
+/// Runs a case, and says what differs from what it says.
+pub fn run_case(alloc: Global, case: &Case) -> Result<Vec<String>, AllocError> {
+    let fails = Vec::from_slice(alloc, &case.cabinet_fails)?;
+    let mut cabinet = MemCabinet::make(Vec::new(alloc), fails);
+    put_all(&mut cabinet, &case.files)?;
+    let mut printer = MemPrinter::make(Vec::from_slice(alloc, &case.printer_fails)?);
+    let mut differences = Vec::new(alloc);
+    for (place, run) in case.runs.iter().enumerate() {
+        let before = printer.printed().len();
+        let status = perform(alloc, run, &mut cabinet, &mut printer).code();
+        let printed = printer.printed().get(before..).unwrap_or_default();
+        judge_run(alloc, &mut differences, place, run, status, printed)?;
+    }
+    judge_files(alloc, &mut differences, case, &cabinet)?;
+    Ok(differences)
+}
+
+/// Makes a call. Words that name no reader, and a file that isn't there, end with the status of a wrong command line.
+fn perform(alloc: Global, run: &Run, cabinet: &mut MemCabinet, printer: &mut MemPrinter) -> Status {
+    if run.call == Call::Program {
+        return esa_plain(alloc, &run.words, cabinet, printer);
+    }
+    let status = match reading_of(&run.words) {
+        Some(reading) => read(alloc, reading, cabinet),
+        None => Status::Usage,
+    };
+    tell(&status, printer);
+    status
+}
+
+/// Puts files into a cabinet, the later ones in the place of earlier ones of their name.
+fn put_all(cabinet: &mut MemCabinet, files: &[File]) -> Result<(), AllocError> {
+    for file in files {
+        cabinet.put(file.name.as_str(), &file.bytes)?;
+    }
+    Ok(())
+}
+
+/// Adds what differs in a call's status and in what it printed.
+fn judge_run(
+    alloc: Global,
+    differences: &mut Vec<String>,
+    place: usize,
+    run: &Run,
+    status: u8,
+    printed: &[u8],
+) -> Result<(), AllocError> {
+    let number = place.saturating_add(1);
+    let wants = run.status;
+    if status != wants {
+        differences.push(format!(in alloc;
+            "run {number} ended with status {status} and not {wants}"
+        )?)?;
+    }
+    let what = format!(in alloc; "what run {number} printed")?;
+    add(
+        differences,
+        difference_of_bytes(alloc, what.as_str(), printed, &run.printed)?,
+    )
+}
+
+/// Adds what differs in the files that the case may have.
+fn judge_files(
+    alloc: Global,
+    differences: &mut Vec<String>,
+    case: &Case,
+    cabinet: &MemCabinet,
+) -> Result<(), AllocError> {
+    let mut wanted = MemCabinet::make(Vec::new(alloc), Vec::new(alloc));
+    put_all(&mut wanted, &case.files)?;
+    put_all(&mut wanted, &case.left)?;
+    for name in &names_of(alloc, case)? {
+        add(
+            differences,
+            difference(alloc, name, cabinet.file(name), wanted.file(name))?,
+        )?;
+    }
+    Ok(())
+}
+
+/// The names of the files that a case may have, each once: those that are there before, those that the case leaves,
+/// and those that the files name between quotation marks, as a job does each file that its command writes.
+fn names_of(alloc: Global, case: &Case) -> Result<Vec<&str>, AllocError> {
+    let mut names = Vec::new(alloc);
+    for file in &case.files {
+        add_name(&mut names, file.name.as_str())?;
+        add_quoted(&mut names, &file.bytes)?;
+    }
+    for file in &case.left {
+        add_name(&mut names, file.name.as_str())?;
+    }
+    Ok(names)
+}
+
+/// Adds the names that bytes hold between quotation marks. A name has at most 255 bytes.
+fn add_quoted<'a>(names: &mut Vec<&'a str>, bytes: &'a [u8]) -> Result<(), AllocError> {
+    for part in bytes.split(|byte| *byte == b'"') {
+        if part.len() <= 255 {
+            if let Ok(name) = str::from_utf8(part) {
+                add_name(names, name)?;
+            }
+        }
+    }
+    Ok(())
+}
+
+/// Adds a name that isn't there yet.
+fn add_name<'a>(names: &mut Vec<&'a str>, name: &'a str) -> Result<(), AllocError> {
+    if !names.contains(&name) {
+        names.push(name)?;
+    }
+    Ok(())
+}
+
+/// Adds a difference, if there is one.
+fn add(differences: &mut Vec<String>, found: Option<String>) -> Result<(), AllocError> {
+    if let Some(found) = found {
+        differences.push(found)?;
+    }
+    Ok(())
+}
