@@ -2,10 +2,10 @@ ghost use Rattle.std.specs.Prelude.{◌≡◌, IfSome};
 ghost use Rattle.esa_job.specs.Seen.{request_of};
 
 use crate::{
-    Command, Draw, Drops, DropsRefused, Job, JobField, JobRefused, KeyField, KeyRing, KeysRefused,
-    Mode, command_of,
+    Command, Drops, DropsRefused, Job, JobField, JobRefused, KeyField, KeyRing, KeysRefused, Mode,
+    command_of,
 };
-use esa_params::Form;
+use esa_params::{Draw, Form};
 use std::alloc::{AllocError, Global};
 use std::process::Abort;
 use std::test::Fail;

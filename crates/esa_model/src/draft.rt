@@ -5,12 +5,10 @@ ghost use Rattle.esa_model.specs.Drafts.{none_begun, lists_of, with_word, can_co
 
 use crate::turns::Turns;
 use crate::word::Word;
+use esa_params::MOST_TURNS;
 use std::alloc::{AllocError, Global};
 use std::marker::Model;
 use std::mem;
-
-/// The most turns of a turns file.
-const MOST_TURNS: u32 = 4_194_304;
 
 /// The lists that are ended, and the one that goes on.
 #[derive(Drop)]
