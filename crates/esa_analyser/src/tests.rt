@@ -151,3 +151,33 @@ fn upgrade_rows(rt: HostRuntime) -> Result<(), Fail> {
     assert_eq!(rt; cabinet.file("database"), Some(UPGRADED.as_slice()));
     Ok(())
 }
+
+/// A database of version 2 is read as well.
+#[test]
+fn version_two(rt: HostRuntime) -> Result<(), Fail> {
+    let db = read_db(rt.alloc(), &UPGRADED)?;
+    assert_eq!(rt; db.form(), Form::Two);
+    let mut printer = MemPrinter::make(Vec::new(rt.alloc()));
+    histogram(&db, &mut printer)?;
+    assert_eq!(rt; printer.printed(), b"         3 a\nunopened 0\n".as_slice());
+    Ok(())
+}
+
+/// One envelope of form Two is counted.
+#[test]
+fn form_two(rt: HostRuntime) -> Result<(), Fail> {
+    let keys = Keys {
+        enc: [1; 32],
+        mac: [2; 32],
+    };
+    let report: [u8; 192] = code(b"a")?;
+    let mut envelope = [0u8; 232];
+    seal(&keys, Label::Inner, 7, &report, &mut envelope);
+    let mut analysis = Analysis::make(rt.alloc(), Form::Two, 1)?;
+    analysis.count(&keys, &envelope);
+    let mut cabinet = MemCabinet::make(Vec::new(rt.alloc()), Vec::new(rt.alloc()));
+    analysis.write(&mut cabinet, "database")?;
+    let want = b"ESAD\x02\x00\x00\x00\x01\x00\x00\x00\x00\x01a\x00\x00\x00\x01";
+    assert_eq!(rt; cabinet.file("database"), Some(want.as_slice()));
+    Ok(())
+}

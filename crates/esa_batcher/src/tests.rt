@@ -308,3 +308,22 @@ fn accepted(rt: HostRuntime) -> Result<(), Fail> {
     );
     Ok(())
 }
+
+/// A file of two envelopes of form Two, in epoch 7.
+#[test]
+fn version_two(rt: HostRuntime) -> Result<(), Fail> {
+    let mut file = Vec::from_slice(
+        rt.alloc(),
+        b"ESAB\x02\x00\x00\x00\x02\x01\x30\x00\x00\x00\x07",
+    )?;
+    file.extend_from_slice(&[3; 304])?;
+    file.extend_from_slice(&[5; 304])?;
+    let batch = read_batch(rt.alloc(), &file, 2)?;
+    assert_eq!(rt;
+        (batch.form(), batch.epoch(), batch.count()),
+        (Form::Two, 7, 2)
+    );
+    let again = written(rt.alloc(), &batch)?;
+    assert_eq!(rt; again.as_slice(), file.as_slice());
+    Ok(())
+}

@@ -57,3 +57,19 @@ fn headers(rt: HostRuntime) -> Result<(), Fail> {
     assert_eq!(rt; out.as_slice(), one.as_slice());
     Ok(())
 }
+
+/// A file of one envelope of form Two, in epoch 7.
+#[test]
+fn version_two(rt: HostRuntime) -> Result<(), Fail> {
+    let mut file = [0x5a; 247];
+    file[..15].copy_from_slice(b"ESAF\x02\x00\x00\x00\x01\x00\xe8\x00\x00\x00\x07");
+    match read_forward(rt.alloc(), &file) {
+        Ok(forwarded) => {
+            assert_eq!(rt; forwarded.form, Form::Two);
+            assert_eq!(rt; forwarded.epoch, 7);
+            assert_eq!(rt; forwarded.envelopes.bytes(), [0x5a; 232].as_slice());
+        }
+        Err(refused) => assert!(rt; false, "{refused:?}"),
+    }
+    Ok(())
+}
