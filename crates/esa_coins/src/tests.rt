@@ -226,7 +226,8 @@ fn shared_buckets<C: Coins + Sync>(coins: &C) -> u32 {
 fn threads_may_share_coins(rt: HostRuntime) -> Result<(), Fail> {
     let plan = small_plan(1).ok_or("a plan")?;
     let seeded = SeededCoins::make(seed(), Draw::Single, plan);
-    let table = TableCoins::read(rt.alloc(), GOOD.as_bytes(), plan)
+    let file = br#"{"attempts":[{"targets":[0,0,1,0],"orders":[[0,1,2],[0,1,2]]}]}"#;
+    let table = TableCoins::read(rt.alloc(), file.as_slice(), plan)
         .ok()
         .ok_or("coins")?;
     assert_eq!(rt; shared_buckets(&seeded), 2);
