@@ -1,12 +1,11 @@
 -- What analyse takes in, writes and prints.
 use Rattle.std.specs.Prelude.{◌≡◌, ℕ, ◌*◌, ◌/◌, ◌≤◌, false, List, [], ◌∷◌, ◌++◌, length, codes, unwrap_or}
 use Rattle.esa_params.specs.declared.form.Form.{Form}
-use Rattle.esa_params.specs.declared.form.Form.TheVariants.{One, Two}
 use Rattle.esa_params.specs.Form.{inner_length}
 use Rattle.esa_outside.specs.Told.{line_of}
 use Rattle.esa_envelope.specs.declared.keys.Keys.{Keys}
 use Rattle.esa_envelope.specs.declared.label.Label.TheVariants.{Inner}
-use Rattle.esa_envelope.specs.Keys.{keys_from, master_of_epoch}
+use Rattle.esa_envelope.specs.Keys.{record_keys}
 use Rattle.esa_header.specs.Pieces.{pieces}
 use Rattle.esa_job.specs.declared.command.Command.TheVariants.{Analyse}
 use Rattle.esa_job.specs.declared.field.JobField.TheVariants as field
@@ -22,11 +21,6 @@ use Rattle.esa_cli.specs.Step.{Step, ◌>>=◌, accepted, Reads}
 use Rattle.esa_cli.specs.Taking.{name_of, job_file, keys_file, forward_file}
 use Rattle.esa_cli.specs.Work.{Work}
 
--- the master of a form and an epoch: in form One the master itself, whatever the epoch
-abbrev pub master_of : Form → ℕ → List ℕ → List ℕ
-master_of One epoch master = master
-master_of Two epoch master = master_of_epoch master epoch
-
 -- the number of envelopes, and each of them
 abbrev pub number_of : Forwarded → ℕ
 number_of forwarded = length forwarded.envelopes / inner_length forwarded.form
@@ -40,7 +34,7 @@ AreWhole forwarded = (length forwarded.envelopes ≡ inner_length forwarded.form
 
 -- the keys that open the envelopes
 abbrev pub inner_keys : List ℕ → Forwarded → Keys
-inner_keys master forwarded = keys_from (master_of forwarded.form forwarded.epoch master) Inner
+inner_keys master forwarded = record_keys forwarded.form forwarded.epoch master Inner
 
 -- the database of the envelopes
 abbrev pub counted_by : List ℕ → Forwarded → Database

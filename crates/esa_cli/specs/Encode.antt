@@ -5,7 +5,7 @@ use Rattle.esa_outside.specs.Told.{line_of}
 use Rattle.esa_envelope.specs.declared.keys.Keys.{Keys}
 use Rattle.esa_envelope.specs.declared.label.Label.{Label}
 use Rattle.esa_envelope.specs.declared.label.Label.TheVariants.{Inner, Outer}
-use Rattle.esa_envelope.specs.Keys.{keys_from}
+use Rattle.esa_envelope.specs.Keys.{record_keys}
 use Rattle.esa_encoder.specs.declared.submission.EncodeRefused.{EncodeRefused}
 use Rattle.esa_encoder.specs.declared.submission.EncodeRefused.TheVariants as encoder
 use Rattle.esa_encoder.specs.Encoded.{encoded}
@@ -19,7 +19,6 @@ use Rattle.esa_cli.specs.declared.source.Source.TheVariants as source
 use Rattle.esa_cli.specs.declared.stop.Sink.TheVariants.{Output}
 use Rattle.esa_cli.specs.declared.stop.Stop.{Stop}
 use Rattle.esa_cli.specs.declared.stop.Stop.TheVariants.{Refused, OutOfMemory}
-use Rattle.esa_cli.specs.Analyse.{master_of}
 use Rattle.esa_cli.specs.Asked.{number_of, form_asked}
 use Rattle.esa_cli.specs.Refusal.{numbered}
 use Rattle.esa_cli.specs.Step.{Step, ◌>>=◌, accepted, refused, Reads, file}
@@ -41,7 +40,7 @@ stop_of_encode why = Refused (encode_refusal why)
 
 -- the keys that seal the envelopes of a label, for the form and the epoch that a job asks for
 abbrev pub sealing_keys : Request → List ℕ → Label → Keys
-sealing_keys job master label = keys_from (master_of (form_asked job) (number_of job field.Epoch) master) label
+sealing_keys job master label = record_keys (form_asked job) (number_of job field.Epoch) master label
 
 -- the submissions of reports, by what a job asks for and under its keys
 abbrev pub encoded_by : Request → Ring → List ℕ → Result (List ℕ) EncodeRefused

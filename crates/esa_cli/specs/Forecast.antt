@@ -20,7 +20,7 @@ use Rattle.esa_model.specs.declared.turns.TurnsRefused.TheVariants as model
 use Rattle.esa_job.specs.declared.command.Command.{Command}
 use Rattle.esa_job.specs.declared.command.Command.TheVariants.{Plan}
 use Rattle.esa_job.specs.declared.field.JobField.TheVariants as field
-use Rattle.esa_job.specs.declared.value.Draw.TheVariants.{Single}
+use Rattle.esa_params.specs.declared.draw.Draw.TheVariants.{Single}
 use Rattle.esa_job.specs.Refusal.{params_of}
 use Rattle.esa_job.specs.Request.{Request, name_at, seed_at, draw_at}
 use Rattle.esa_cli.specs.declared.refusal.Refusal.{Refusal}

@@ -2,12 +2,10 @@
 
 ghost use Rattle.std.specs.Prelude.{◌≡◌, Some, IfOk};
 ghost use Rattle.esa_lists.specs.Files.{Files};
-ghost use Rattle.esa_envelope.specs.declared.label.Label.TheVariants.{Inner};
-ghost use Rattle.esa_envelope.specs.Keys.{keys_from};
 ghost use Rattle.esa_job.specs.Seen.{Needs};
 ghost use Rattle.esa_cli.specs.Step.{reads_of};
 ghost use Rattle.esa_cli.specs.Judged.{Judged, Counted};
-ghost use Rattle.esa_cli.specs.Analyse.{analyse_steps, database_work, master_of, number_of, counted_by, AreWhole};
+ghost use Rattle.esa_cli.specs.Analyse.{analyse_steps, database_work, number_of, counted_by, AreWhole};
 ghost use Rattle.esa_cli.specs.Counting.{taken_work, tallied_work};
 ghost use Rattle.esa_cli.specs.Ends.{Does, Ends};
 ghost use Rattle.esa_cli.specs.Explains.{ending};
@@ -16,7 +14,7 @@ use crate::printing::{counted_line, print_line};
 use crate::stop::{Sink, Stop};
 use crate::taking::{take_forward, take_job, take_keys};
 use esa_analyser::Analysis;
-use esa_envelope::{Keys, Label, epoch_master, keys_of};
+use esa_envelope::{Label, record_keys};
 use esa_job::{Command, Job, JobField};
 use esa_outside::{Cabinet, Failed, Printer};
 use esa_params::Form;
@@ -58,16 +56,6 @@ fn take_in<K: Cabinet>(alloc: Global, cabinet: &mut K, name: &str) -> Result<Tak
     })
 }
 
-// The keys of the inner envelopes of a form and an epoch.
-fn inner_keys(form: Form, epoch: u32, master: &[u8; 32]) -> Keys
-    ensures { result ≡ keys_from (master_of form epoch master.now) Inner }
-{
-    match form {
-        Form::One => keys_of(master, Label::Inner),
-        Form::Two => keys_of(&epoch_master(master, epoch), Label::Inner),
-    }
-}
-
 // How many envelopes were handed on.
 fn number(forwarded: &Forwarded) -> u32
     requires { AreWhole forwarded.now }
@@ -87,7 +75,7 @@ fn count(alloc: Global, master: &[u8; 32], forwarded: &Forwarded) -> Result<Anal
     ensures database { IfOk result (λ analysis. analysis.database ≡ counted_by master.now forwarded.now) }
 {
     let mut analysis = Analysis::make(alloc, forwarded.form, number(forwarded))?;
-    let keys = inner_keys(forwarded.form, forwarded.epoch, master);
+    let keys = record_keys(forwarded.form, forwarded.epoch, master, Label::Inner);
     analysis.count(&keys, forwarded.envelopes.bytes());
     Ok(analysis)
 }

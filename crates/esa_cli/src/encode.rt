@@ -22,11 +22,10 @@ use crate::stop::{Sink, Stop};
 use crate::taking::{take_job, take_keys};
 use crate::writing::write_bytes;
 use esa_encoder::EncodeRefused;
-use esa_envelope::{Keys, Label, epoch_master, keys_of};
+use esa_envelope::{Keys, Label, record_keys};
 use esa_job::{Command, Job, JobField, KeyRing};
 use esa_line::line_count;
 use esa_outside::{Cabinet, Failed, Printer};
-use esa_params::Form;
 use std::alloc::Global;
 
 /// Reports that are sealed.
@@ -61,10 +60,7 @@ impl From<EncodeRefused> for Stop {
 fn sealing_keys(job: &Job, master: &[u8; 32], label: Label) -> Keys
     ensures { result ≡ sealing_keys (request_of job.now) master.now label }
 {
-    match form_of(job) {
-        Form::One => keys_of(master, label),
-        Form::Two => keys_of(&epoch_master(master, job.epoch().unwrap_or(0)), label),
-    }
+    record_keys(form_of(job), job.epoch().unwrap_or(0), master, label)
 }
 
 /// Reads the job. One that asks for shares is refused: to send its values whole would tell what was to stay hidden.

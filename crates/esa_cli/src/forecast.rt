@@ -25,10 +25,10 @@ use crate::source::Source;
 use crate::stop::{Sink, Stop};
 use crate::taking::take_job;
 use esa_coins::{AnyCoins, CoinsRefused, SeededCoins, TableCoins};
-use esa_job::{Command, Draw, Job, JobField};
+use esa_job::{Command, Job, JobField};
 use esa_model::{Forecast, Predictor, Turns, TurnsRefused, Verdict};
 use esa_outside::{Cabinet, Failed, Printer};
-use esa_params::Plan;
+use esa_params::{Draw, Plan};
 use esa_trace::write_trace;
 use std::alloc::Global;
 

@@ -1,33 +1,22 @@
 -- The values of a JSON list.
 use Rattle.std.proofs.Common.{◌≡◌, ℕ, ◌==◌, codes, is_some, List, length, map, Option, Some, Result, Ok, Err, ap, sym, ◌∙◌}
 use Rattle.std.specs.List.{list_all}
-use Rattle.std.specs.Option.{ok_or, option_map}
+use Rattle.std.specs.Option.{ok_or}
 use Rattle.std.proofs.lemmas.Bool.{eq-eqb, ne_eqb}
 use Rattle.std.proofs.lemmas.List.{length-map}
 use Rattle.std.proofs.lemmas.List.Folds.{list_all-map}
 use Rattle.serde_json.specs.Data.{Data}
-use Rattle.serde_json.specs.Find.{get, as_array, as_object}
-use Rattle.serde_json.specs.View.{items_of}
-use Rattle.esa_job.specs.Values.{list_of}
-use Rattle.esa_job.proofs.ValueLemmas.{list_of-items_of}
+use Rattle.serde_json.specs.Find.{get, as_object}
+use Rattle.esa_json.specs.Values.{values_in}
 use Rattle.esa_coins.specs.Table.{and_then, only_if, list_in, attempts_in}
 use Rattle.esa_coins.specs.declared.refused.CoinsRefused.{CoinsRefused}
 use Rattle.esa_coins.specs.declared.refused.CoinsRefused.TheVariants.{Shape}
 
-abbrev counted : ℕ → CoinsRefused → Option (List Data) → Result (List Data) CoinsRefused
-counted count refused found = and_then (ok_or found refused) (λ values. only_if (length values == count) values refused)
-
-listed : (count : ℕ) (refused : CoinsRefused) (value : Data) (values : List Data) → Some (items_of values) ≡ as_array value → list_in count refused (Some value) ≡ only_if (length values == count) values refused
-listed count refused value values is =
-    ap (λ found. counted count refused (option_map list_of found)) (sym is)
-    ∙ ap (λ list. counted count refused (Some list)) (list_of-items_of values)
-
 -- the values as a slice that is seen as data
-module _ {S : Type 0} (view : S → Data) (count : ℕ) (refused : CoinsRefused) (value : Data) (items slice : List S) (is : Some (items_of (map view items)) ≡ as_array value) (same : slice ≡ items) where
+module _ {S : Type 0} (view : S → Data) (count : ℕ) (refused : CoinsRefused) (value : Data) (slice : List S) (is : Some (map view slice) ≡ values_in value) where
   counted_slice : list_in count refused (Some value) ≡ only_if (length slice == count) (map view slice) refused
   counted_slice =
-      listed count refused value (map view items) is
-      ∙ ap (λ list. only_if (length (map view list) == count) (map view list) refused) (sym same)
+      ap (λ found. and_then (ok_or found refused) (λ values. only_if (length values == count) values refused)) (sym is)
       ∙ ap (λ n. only_if (n == count) (map view slice) refused) (length-map slice view)
 
   pub list_in-slice : length slice ≡ count → list_in count refused (Some value) ≡ Ok (map view slice)

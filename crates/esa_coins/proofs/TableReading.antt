@@ -1,5 +1,5 @@
 -- What is read from a coins file is such as attempts need.
-use Rattle.std.proofs.Common.{◌≡◌, ℕ, ◌==◌, Bool, true, false, nat_lt, codes, is_some, ◌<◌, List, [], map, get_or, length, Option, Some, Result, Ok, Err, refl, ap, sym, ◌∙◌, subst}
+use Rattle.std.proofs.Common.{◌≡◌, ℕ, ◌==◌, Bool, true, false, nat_lt, codes, is_some, ◌<◌, List, [], map, get_or, length, Option, Some, option_and_then, Result, Ok, Err, refl, ap, sym, ◌∙◌, subst}
 use Rattle.std.specs.Cmp.Derive.{both_true}
 use Rattle.std.specs.List.{list_all}
 use Rattle.std.specs.Option.{ok_or}
@@ -10,9 +10,9 @@ use Rattle.std.proofs.lemmas.List.Sorted.{length_permutation}
 use Rattle.serde_json.specs.Data.{Data}
 use Rattle.serde_json.specs.Find.{get, as_object}
 use Rattle.esa_params.specs.Sizes.{Sizes, below}
-use Rattle.esa_job.specs.Values.{number_in}
+use Rattle.esa_json.specs.Values.{values_in, number_in}
 use Rattle.esa_coins.specs.Order.{is_order}
-use Rattle.esa_coins.specs.Table.{Table, and_then, only_if, each, values_in, list_in, numbers_in, targets_in, import_places, order_in, orders_in, table_in, attempts_in, is_table, are_tables}
+use Rattle.esa_coins.specs.Table.{Table, and_then, only_if, each, list_in, numbers_in, targets_in, import_places, order_in, orders_in, table_in, attempts_in, is_table, are_tables}
 use Rattle.esa_coins.specs.TableLaws.{IsTable, table_at, order_permuted}
 use Rattle.esa_coins.specs.declared.refused.CoinsRefused.{CoinsRefused}
 use Rattle.esa_coins.specs.declared.refused.CoinsRefused.TheVariants.{Shape, Targets, Target, Order}
@@ -37,7 +37,7 @@ kept false x y e is = cc
 
 pub length-list_in : (count : ℕ) (refused : CoinsRefused) (value : Option Data) (values : List Data) → list_in count refused value ≡ Ok values → length values ≡ count
 length-list_in count refused value values is =
-    let s = steps (ok_or (values_in value) refused) (λ list. only_if (length list == count) list refused) values is in
+    let s = steps (ok_or (option_and_then values_in value) refused) (λ list. only_if (length list == count) list refused) values is in
     let k = kept (length s.value == count) s.value values refused s.next_is in
     ap length (sym k.same) ∙ eqb-true (length s.value) count k.passes
 

@@ -7,8 +7,8 @@ use Rattle.rand_chacha.specs.ChaCha.{next_word, of_seed}
 use Rattle.rand.specs.Shuffle.{shuffled}
 use Rattle.rand.specs.Uniform.{canon}
 use Rattle.esa_params.specs.Sizes.{Sizes, size, below}
-use Rattle.esa_job.specs.declared.value.Draw.{Draw}
-use Rattle.esa_job.specs.declared.value.Draw.TheVariants.{Single, Separators}
+use Rattle.esa_params.specs.declared.draw.Draw.{Draw}
+use Rattle.esa_params.specs.declared.draw.Draw.TheVariants.{Single, Separators}
 use Rattle.esa_coins.specs.Streams.{ForTargets, ForOrder, ForSeparators, stream_number}
 
 -- a seed, how targets are drawn from it, and for which plan

@@ -5,8 +5,8 @@ use Rattle.std.proofs.lemmas.List.FromFn.{length-range_with_len}
 use Rattle.std.proofs.lemmas.Nat.{mul-le}
 use Rattle.rand_core.specs.Stream.{Stream}
 use Rattle.esa_params.specs.Sizes.{Sizes, ArePlanned, size, below}
-use Rattle.esa_job.specs.declared.value.Draw.{Draw}
-use Rattle.esa_job.specs.declared.value.Draw.TheVariants.{Single, Separators}
+use Rattle.esa_params.specs.declared.draw.Draw.{Draw}
+use Rattle.esa_params.specs.declared.draw.Draw.TheVariants.{Single, Separators}
 use Rattle.esa_coins.specs.Seeded.{Seeds, shuffled_below, targets_by, seeded_targets, seeded_order}
 use Rattle.esa_coins.specs.Words.{WordsFit, words_fit-stream_at, length-drawn_below, drawn_below-below}
 use Rattle.esa_coins.specs.Shuffled.{shuffled-permutes}

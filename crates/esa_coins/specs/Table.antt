@@ -2,10 +2,10 @@
 use Rattle.std.specs.Prelude.{◌≡◌, ◌⊎◌, ℕ, ◌+◌, ◌*◌, ◌==◌, ◌&&◌, Bool, nat_lt, is_some, codes, List, [], ◌∷◌, length, take, drop, slice_index_or, Option, Some, ok_or, option_and_then, option_map, Result, Ok, Err, MatchResult, if◌then◌else◌}
 use Rattle.std.specs.List.{list_all}
 use Rattle.serde_json.specs.Data.{Data}
-use Rattle.serde_json.specs.Find.{get, as_array, as_object}
+use Rattle.serde_json.specs.Find.{get, as_object}
 use Rattle.esa_json.specs.Object.{object_of}
+use Rattle.esa_json.specs.Values.{values_in, number_in}
 use Rattle.esa_params.specs.Sizes.{Sizes, first, size}
-use Rattle.esa_job.specs.Values.{number_in, list_of}
 use Rattle.esa_coins.specs.Order.{is_order}
 use Rattle.esa_coins.specs.declared.refused.CoinsRefused.{CoinsRefused}
 use Rattle.esa_coins.specs.declared.refused.CoinsRefused.TheVariants.{Shape, Targets, Target, Order, OutOfMemory}
@@ -40,14 +40,10 @@ abbrev pub each : {T V E : Type 0} → (ℕ → T → Result V E) → ℕ → Li
 each read index [] = Ok []
 each read index (x ∷ xs) = before (read index x) (each read (index + 1) xs)
 
--- the values of a JSON list
-abbrev pub values_in : Option Data → Option (List Data)
-values_in value = option_map list_of (option_and_then as_array value)
-
 -- so many values
 abbrev pub list_in : ℕ → CoinsRefused → Option Data → Result (List Data) CoinsRefused
 list_in count refused value =
-    and_then (ok_or (values_in value) refused) (λ values. only_if (length values == count) values refused)
+    and_then (ok_or (option_and_then values_in value) refused) (λ values. only_if (length values == count) values refused)
 
 -- so many whole numbers from 0 to 2^64 - 1
 abbrev pub numbers_in : ℕ → CoinsRefused → Option Data → Result (List ℕ) CoinsRefused

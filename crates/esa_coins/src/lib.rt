@@ -5,12 +5,11 @@
 //! kit's `rand` and `rand_chacha`, so that another program over the same crates draws the same numbers. `TableCoins`
 //! reads them from a JSON file, which `serde_json` and `esa_json` define: it accepts exactly the files with such lists,
 //! and refuses the others at their first bad place. `AnyCoins` are coins of either kind, as a job asks for. The crate
-//! gives out the trait `Coins` of `esa_spec` and the `Draw` of `esa_job` again.
+//! gives out the trait `Coins` of `esa_spec` and the `Draw` of `esa_params` again.
 #![tactic(auto)]
 
 mod any;
 mod attempt;
-mod check;
 mod draws;
 mod lists;
 mod orders;
@@ -22,8 +21,7 @@ mod table;
 mod tests;
 
 pub use any::AnyCoins;
-pub use check::{order_holds, targets_hold};
-pub use esa_job::Draw;
+pub use esa_params::Draw;
 pub use esa_spec::Coins;
 pub use refused::CoinsRefused;
 pub use seeded::SeededCoins;

@@ -2,12 +2,12 @@
 
 ghost use Rattle.std.specs.Prelude.{◌≡◌, ◌+◌, ◌*◌, ◌^◌, ◌<◌, ◌≤◌, map, option_map, ok_or, nat_lt, length, All, IfOk, MatchResult};
 ghost use Rattle.serde_json.specs.View.{view};
-ghost use Rattle.esa_job.specs.Values.{number_in};
+ghost use Rattle.esa_json.specs.Values.{number_in};
 ghost use Rattle.esa_coins.specs.Table.{Gives, each, only_if, list_in, numbers_in, targets_in, order_in, orders_in};
 
 use crate::CoinsRefused;
-use crate::check::import_places;
-use crate::orders::is_order;
+use crate::orders::{import_places, is_order};
+use esa_json::{number_in, values_in};
 use esa_params::Plan;
 use serde_json::Value;
 use std::alloc::{AllocError, Global};
@@ -24,10 +24,9 @@ pub(crate) fn list_in(
     let Some(value) = value else {
         return Err(refused);
     };
-    let Some(values) = value.as_array() else {
+    let Some(values) = values_in(value) else {
         return Err(refused);
     };
-    let values = values.as_slice();
     if values.len() == count as usize {
         Ok(values)
     } else {
@@ -45,7 +44,7 @@ fn whole_numbers(
 {
     let mut numbers = Vec::with_capacity(alloc, values.len())?;
     for value in values {
-        let Some(number) = value.as_u64() else {
+        let Some(number) = number_in(value) else {
             return Err(refused);
         };
         numbers.push(number)?;

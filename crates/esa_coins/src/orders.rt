@@ -1,10 +1,18 @@
-//! Whether numbers are an order: each place once.
+//! The places of an import, and whether numbers are an order of them: each place once.
 
-ghost use Rattle.std.specs.Prelude.{◌≡◌, ◌↔◌, false, IsTrue, IfOk, length, replicate, IsPermutation};
+ghost use Rattle.std.specs.Prelude.{◌≡◌, ◌+◌, ◌*◌, ◌↔◌, false, IsTrue, IfOk, length, replicate, IsPermutation};
 ghost use Rattle.esa_params.specs.Sizes.{below};
 ghost use Rattle.esa_coins.specs.Order.{is_order};
 
+use esa_params::Plan;
 use std::alloc::{AllocError, Global};
+
+/// The places of an import: its chunks and its tail.
+pub(crate) fn import_places(plan: &Plan) -> u32
+    ensures { result ≡ plan.now.b * plan.now.c + plan.now.k }
+{
+    plan.b() * plan.c() + plan.k()
+}
 
 /// Whether the numbers are those below `places`, each once, in any order. It takes one byte for each place.
 pub(crate) fn is_order(alloc: Global, places: u32, numbers: &[u64]) -> Result<bool, AllocError>

@@ -3,8 +3,7 @@
 ghost use Rattle.esa_params.specs.Sizes.{ArePlanned};
 
 use crate::draws::{draw_below, separate, shuffle_below};
-use esa_job::Draw;
-use esa_params::Plan;
+use esa_params::{Draw, Plan};
 use esa_spec::Coins;
 
 /// Coins that are drawn from a seed of 32 bytes, by ChaCha20.

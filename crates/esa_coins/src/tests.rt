@@ -1,9 +1,12 @@
 // Drawn numbers are those that `tests/draw.py` draws from the published algorithms.
-use crate::check::import_places;
-use crate::{AnyCoins, Coins, Draw, SeededCoins, TableCoins, order_holds, targets_hold};
+use crate::orders::import_places;
+use crate::{AnyCoins, Coins, Draw, SeededCoins, TableCoins};
 use esa_params::{Form, Params, Plan, check};
+use held::{order_holds, targets_hold};
 use std::alloc::{AllocError, Global};
 use std::test::Fail;
+
+mod held;
 
 fn plan_of(b: u64, c: u64, k: u64, attempts: u64, n: u32) -> Option<Plan> {
     let params = Params {
@@ -211,6 +214,26 @@ fn coins_hold(rt: HostRuntime) -> Result<(), Fail> {
             assert!(rt; all_hold(rt.alloc(), &either, attempt, bucket)?);
         }
     }
+    Ok(())
+}
+
+// The number of buckets, from coins that threads may share.
+fn shared_buckets<C: Coins + Sync>(coins: &C) -> u32 {
+    coins.plan().b()
+}
+
+#[test]
+fn threads_may_share_coins(rt: HostRuntime) -> Result<(), Fail> {
+    let plan = small_plan(1).ok_or("a plan")?;
+    let seeded = SeededCoins::make(seed(), Draw::Single, plan);
+    let file = br#"{"attempts":[{"targets":[0,0,1,0],"orders":[[0,1,2],[0,1,2]]}]}"#;
+    let table = TableCoins::read(rt.alloc(), file.as_slice(), plan)
+        .ok()
+        .ok_or("coins")?;
+    assert_eq!(rt; shared_buckets(&seeded), 2);
+    assert_eq!(rt; shared_buckets(&table), 2);
+    assert_eq!(rt; shared_buckets(&AnyCoins::Seeded(seeded)), 2);
+    assert_eq!(rt; shared_buckets(&AnyCoins::Table(table)), 2);
     Ok(())
 }
 

@@ -1,22 +1,24 @@
 -- What a job that is acceptable has at its fields.
-use Rattle.std.proofs.Common.{◌≡◌, ℕ, zero, suc, ◌≤◌, Bool, true, false, ◌&&◌, not, cond, List, [], ◌∷◌, length, map, slice_get, Option, Some, None, is_some, option_map, option_and_then, IsSome, refl, ap, ◌∙◌, sym, subst, nat_le}
+use Rattle.std.proofs.Common.{◌≡◌, ℕ, zero, suc, ◌≤◌, ◌<◌, ◌^◌, arith, Bool, true, false, ◌&&◌, not, cond, List, [], ◌∷◌, length, map, slice_get, Option, Some, None, is_some, find, option_map, option_and_then, IfSome, IsSome, refl, ap, ◌∙◌, sym, subst, unwrap_or, nat_le}
 use Rattle.std.specs.List.{AllByRecursion, list_all, filter_map, cons_option}
 use Rattle.std.specs.Option.{option_or, option_map_or}
 use Rattle.std.proofs.lemmas.Bool.{leb-true}
 use Rattle.std.proofs.lemmas.Option.{slice_get-map}
-use Rattle.serde_json.specs.Data.{Data, Items}
-use Rattle.serde_json.specs.Find.{as_array}
+use Rattle.serde_json.specs.Data.{Data}
+use Rattle.esa_json.specs.Values.{values_in}
 use Rattle.esa_params.specs.Limits.{is_from, first_past}
 use Rattle.esa_job.specs.declared.field.JobField.{JobField}
 use Rattle.esa_job.specs.declared.field.JobField.TheVariants.{Job, Keys, Input, Inputs, Output, Trace, Turns, TurnsOut, Drops, Coins, Seed, Draw, Records, Crowds, Number, NonceBase, Form, Epoch, Shares, B, C, S, K, W, Q, Workers, Attempts, M, T, Mode}
 use Rattle.esa_job.specs.declared.field.Kind.TheVariants as kind
 use Rattle.esa_job.specs.declared.field.Need.{Need}
 use Rattle.esa_job.specs.declared.field.Need.TheVariants.{Unused, Optional, Needed}
-use Rattle.esa_job.specs.Refusal.{IsAcceptable, is_missing, is_ill_typed, is_bad, first_bad, is_past, params_of, first_param_past, first_other_past}
+use Rattle.esa_job.specs.Refusal.{IsAcceptable, is_missing, is_ill_typed, is_bad, first_bad, is_outside, is_past, param_of, params_of, first_param_past, first_other_past}
 use Rattle.esa_job.specs.Request.{Request, is_used, is_needed, value_at, is_there, name_at, number_at, mode_at, list_at, inputs_at}
-use Rattle.esa_job.specs.Table.{fields, kind_of, need_of}
+use Rattle.esa_job.specs.Table.{fields, limited_fields, kind_of, limits_of, need_of}
+use Rattle.esa_job.specs.declared.table.Limits.{Limits}
 use Rattle.esa_job.proofs.Outcomes.{both_false, both_true, not-false, not_chosen, is_none-none, none_found}
-use Rattle.esa_job.specs.Values.{name_in, number_in, mode_in, is_name, is_name_list, holds_names, list_of}
+use Rattle.esa_json.specs.Values.{number_in}
+use Rattle.esa_job.specs.Values.{name_in, mode_in, is_name, is_name_list, holds_names}
 
 -- ---- no field is bad
 
@@ -102,27 +104,34 @@ mode_at-needed job accepted needed =
 
 -- ---- numbers
 
--- the limits of the numbers beside the parameters
-pub record Kept (job : Request) : Type 0 where
-  pub m : is_past job M 1 262144 ≡ false
-  pub t : is_past job T 1 262144 ≡ false
-  pub records : is_past job Records 1 262144 ≡ false
-  pub crowds : is_past job Crowds 1 65536 ≡ false
-  pub form : is_past job Form 1 2 ≡ false
-  pub epoch : is_past job Epoch 0 4294967295 ≡ false
-  pub shares : is_past job Shares 2 16 ≡ false
+some-not-none : {B : Type 0} (found : Option B) → IsSome found → found ≡ None → ⊥
+some-not-none None some none = cc
+some-not-none (Some y) some none = cc
 
-kept_from : (job : Request) → first_other_past job ≡ None → Kept job
-unfolding first_other_past
-kept_from job none =
-    let m = not_chosen _ _ _ none in
-    let t = not_chosen _ _ _ m.1 in
-    let records = not_chosen _ _ _ t.1 in
-    let crowds = not_chosen _ _ _ records.1 in
-    let form = not_chosen _ _ _ crowds.1 in
-    let epoch = not_chosen _ _ _ form.1 in
-    let shares = not_chosen _ _ _ epoch.1 in
-    record { m = m.0; t = t.0; records = records.0; crowds = crowds.0; form = form.0; epoch = epoch.0; shares = shares.0 }
+-- where nothing comes of a search for the first item that passes a test, nothing passes it: each item would give something
+nothing_found : {A B : Type 0} (test : A → Bool) (f : A → Option B) (xs : List A) → AllByRecursion (λ x. IsSome (f x)) xs → option_and_then f (find test xs) ≡ None → find test xs ≡ None
+nothing_found test f [] some none = refl
+nothing_found test f (x ∷ xs) some none = known (test x) none (nothing_found test f xs some.1)
+  where
+    known : (found : Bool) → option_and_then f (cond found (Some x) (find test xs)) ≡ None → (option_and_then f (find test xs) ≡ None → find test xs ≡ None) → cond found (Some x) (find test xs) ≡ None
+    known true none later = absurd (some-not-none (f x) some.0 none)
+    known false none later = later none
+
+all_within : (job : Request) → first_other_past job ≡ None → AllByRecursion (λ field. is_past job field ≡ false) limited_fields
+unfolding first_other_past limited_fields
+all_within job none = none_found (is_past job) limited_fields (nothing_found (is_past job) param_of limited_fields (refl, (refl, (refl, (refl, (refl, (refl, (refl, tt))))))) none)
+
+-- every number that has limits of its own is among those that are looked at
+each_within : (job : Request) → AllByRecursion (λ field. is_past job field ≡ false) limited_fields → (field : JobField) → is_past job field ≡ false
+unfolding limited_fields
+each_within job all M = all.0
+each_within job all T = all.1.0
+each_within job all Records = all.1.1.0
+each_within job all Crowds = all.1.1.1.0
+each_within job all Form = all.1.1.1.1.0
+each_within job all Epoch = all.1.1.1.1.1.0
+each_within job all Shares = all.1.1.1.1.1.1.0
+each_within job all _ = refl
 
 option_or-none : {A : Type 0} (first second : Option A) → option_or first second ≡ None → (first ≡ None) × (second ≡ None)
 option_or-none None second h = (refl, h)
@@ -131,8 +140,8 @@ option_or-none (Some x) second h = cc
 no_limit_past : (job : Request) → IsAcceptable job → (first_param_past job ≡ None) × (first_other_past job ≡ None)
 no_limit_past job accepted = option_or-none _ _ (is_none-none _ (both_true _ _ accepted).1)
 
-pub kept : (job : Request) → IsAcceptable job → Kept job
-kept job accepted = kept_from job (no_limit_past job accepted).1
+kept : (job : Request) → IsAcceptable job → (field : JobField) → is_past job field ≡ false
+kept job accepted = each_within job (all_within job (no_limit_past job accepted).1)
 
 -- the parameters keep their limits, for a command that uses them
 pub params_kept : (job : Request) → IsAcceptable job → need_of B job.command ≡ Needed → first_past (params_of job) ≡ None
@@ -148,11 +157,31 @@ is_kept least greatest number past =
     let tests = both_true (nat_le least number) (nat_le number greatest) (not-false _ past) in
     (leb-true _ _ tests.0, leb-true _ _ tests.1)
 
--- a number that is not past its limits
-pub within : (job : Request) (field : JobField) (least greatest number : ℕ) → Some number ≡ number_at job field → is_past job field least greatest ≡ false → (least ≤ number) × (number ≤ greatest)
-within job field least greatest number is past =
-    let P : Option ℕ → Type 0 = λ found. option_map_or (λ n. not (is_from n least greatest)) found false ≡ false in
-    is_kept least greatest number (subst P (sym is) past)
+-- a number is within the limits of its row
+pub within : (job : Request) → IsAcceptable job → (field : JobField) (number : ℕ) → Some number ≡ number_at job field → IfSome (limits_of field) (λ limits. (limits.least ≤ number) × (number ≤ limits.greatest))
+within job accepted field number is = known (limits_of field) (subst (λ found. option_map_or (is_outside found) (limits_of field) false ≡ false) (sym is) (kept job accepted field))
+  where
+    known : (limits : Option Limits) → option_map_or (is_outside (Some number)) limits false ≡ false → IfSome limits (λ limits. (limits.least ≤ number) × (number ≤ limits.greatest))
+    known None past = tt
+    known (Some limits) past = is_kept limits.least limits.greatest number past
+
+-- the limits of a row are numbers of 32 bits
+small_limits : (field : JobField) → IfSome (limits_of field) (λ limits. limits.greatest < 2 ^ 32)
+small_limits M = omega arith
+small_limits T = omega arith
+small_limits Records = omega arith
+small_limits Crowds = omega arith
+small_limits Form = omega arith
+small_limits Epoch = omega arith
+small_limits Shares = omega arith
+small_limits _ = tt
+
+pub small : (job : Request) → IsAcceptable job → (field : JobField) (number : ℕ) → IsSome (limits_of field) → Some number ≡ number_at job field → number < 2 ^ 32
+small job accepted field number limited is = known (limits_of field) limited (within job accepted field number is) (small_limits field)
+  where
+    known : (limits : Option Limits) → IsSome limits → IfSome limits (λ limits. (limits.least ≤ number) × (number ≤ limits.greatest)) → IfSome limits (λ limits. limits.greatest < 2 ^ 32) → number < 2 ^ 32
+    known None limited inside few = cc
+    known (Some limits) limited inside few = omega (arith, inside.1, few)
 
 -- ---- what a value is read from
 
@@ -179,13 +208,13 @@ slice_get-filter_map read (value ∷ values) (suc place) named =
 inputs_named : (job : Request) → IsAcceptable job → list_all is_name (list_at job) ≡ true
 inputs_named job accepted = known (value_at job Inputs) (good job accepted Inputs).typed
   where
-    listed : (found : Option Items) → not (option_map_or (λ values. is_name_list (list_of values)) found false) ≡ false → list_all is_name (option_map_or list_of found []) ≡ true
+    listed : (found : Option (List Data)) → not (option_map_or is_name_list found false) ≡ false → list_all is_name (unwrap_or found []) ≡ true
     listed None typed = cc
-    listed (Some values) typed = (both_true (nat_le 1 (length (list_of values)) && nat_le (length (list_of values)) 16) _ (not-false _ typed)).1
+    listed (Some values) typed = (both_true (nat_le 1 (length values) && nat_le (length values) 16) _ (not-false _ typed)).1
 
-    known : (found : Option Data) → option_map_or (λ value. not (holds_names value)) found false ≡ false → list_all is_name (option_map_or list_of (option_and_then as_array found) []) ≡ true
+    known : (found : Option Data) → option_map_or (λ value. not (holds_names value)) found false ≡ false → list_all is_name (unwrap_or (option_and_then values_in found) []) ≡ true
     known None typed = refl
-    known (Some value) typed = listed (as_array value) typed
+    known (Some value) typed = listed (values_in value) typed
 
 -- the input at a place is the name that the value there is
 pub input_at : (job : Request) → IsAcceptable job → {V : Type 0} (view : V → Data) (values : List V) (place : ℕ) → map view values ≡ list_at job → slice_get (inputs_at job) place ≡ option_and_then name_in (option_map view (slice_get values place))

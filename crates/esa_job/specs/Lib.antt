@@ -7,6 +7,7 @@ pub use Rattle.esa_bytes.specs.Decimal
 pub use Rattle.esa_bytes.specs.Lines
 pub mod Word
 pub mod Table
+pub mod Rows
 pub mod Values
 pub mod Request
 pub mod Refusal

@@ -1,5 +1,5 @@
 -- The first thing that a job is refused for.
-use Rattle.std.specs.Prelude.{◌≡◌, ℕ, Bool, true, false, ◌&&◌, ◌||◌, not, List, [], ◌∷◌, find, bytes_eq, Option, Some, None, is_none, option_map, unwrap_or, Result, Ok, Err, if◌then◌else◌}
+use Rattle.std.specs.Prelude.{◌≡◌, ℕ, Bool, true, false, ◌&&◌, ◌||◌, not, List, [], ◌∷◌, find, bytes_eq, Option, Some, None, is_none, option_map, option_and_then, unwrap_or, Result, Ok, Err, if◌then◌else◌}
 use Rattle.std.specs.List.{list_any}
 use Rattle.std.specs.Option.{option_or, option_map_or}
 use Rattle.serde_json.specs.Data.{Data}
@@ -7,14 +7,14 @@ use Rattle.esa_json.specs.Object.{object_of}
 use Rattle.esa_params.specs.Limits.{is_from, first_past}
 use Rattle.esa_params.specs.declared.params as params
 use Rattle.esa_params.specs.declared.field.ParamField.{ParamField}
-use Rattle.esa_params.specs.declared.field.ParamField.TheVariants as param
 use Rattle.esa_job.specs.declared.command.Command.{Command}
 use Rattle.esa_job.specs.declared.field.JobField.{JobField}
 use Rattle.esa_job.specs.declared.field.JobField.TheVariants.{Job, Keys, Input, Output, Trace, Turns, TurnsOut, Drops, Coins, Seed, Draw, Records, Crowds, Form, Epoch, Shares, B, C, S, K, W, Q, Workers, Attempts, M, T, Mode}
 use Rattle.esa_job.specs.declared.job.JobRefused.{JobRefused}
 use Rattle.esa_job.specs.declared.job.JobRefused.TheVariants as refused
 use Rattle.esa_job.specs.Request.{Request, is_used, is_needed, value_at, is_there, name_at, number_at, draw_at, mode_at, inputs_at}
-use Rattle.esa_job.specs.Table.{fields, kind_of, need_of, only_plans}
+use Rattle.esa_job.specs.Table.{fields, limited_fields, kind_of, limits_of, need_of, only_plans}
+use Rattle.esa_job.specs.declared.table.Limits.{Limits}
 use Rattle.esa_job.specs.Values.{accepts, name_in, is_separators, is_crew}
 
 -- ---- the first bad field
@@ -117,21 +117,24 @@ params_of job = record {
 abbrev pub first_param_past : Request → Option ParamField
 first_param_past job = if is_used (need_of B job.command) then first_past (params_of job) else None
 
--- the number is there, and isn't from a least to a greatest one
-abbrev pub is_past : Request → JobField → ℕ → ℕ → Bool
-is_past job field least greatest = option_map_or (λ number. not (is_from number least greatest)) (number_at job field) false
+-- the number is there, and isn't within these limits
+abbrev pub is_outside : Option ℕ → Limits → Bool
+is_outside number limits = option_map_or (λ n. not (is_from n limits.least limits.greatest)) number false
 
--- the limits of the other numbers, in their order
+-- the number is there, and isn't within the limits of its row
+abbrev pub is_past : Request → JobField → Bool
+is_past job field = option_map_or (is_outside (number_at job field)) (limits_of field) false
+
+-- what a number that is past the limits of its row is refused as
+abbrev pub param_of : JobField → Option ParamField
+param_of field = option_map (λ limits. limits.param) (limits_of field)
+
+-- the first of the other numbers that is past its limits
+abbrev pub first_past_field : Request → Option JobField
+first_past_field job = find (is_past job) limited_fields
+
 unfoldable pub first_other_past : Request → Option ParamField
-first_other_past job =
-    if is_past job M 1 262144 then Some param.M
-    else if is_past job T 1 262144 then Some param.T
-    else if is_past job Records 1 262144 then Some param.Records
-    else if is_past job Crowds 1 65536 then Some param.Crowds
-    else if is_past job Form 1 2 then Some param.Form
-    else if is_past job Epoch 0 4294967295 then Some param.Epoch
-    else if is_past job Shares 2 16 then Some param.Shares
-    else None
+first_other_past job = option_and_then param_of (first_past_field job)
 
 abbrev pub first_limit_past : Request → Option ParamField
 first_limit_past job = option_or (first_param_past job) (first_other_past job)

@@ -1,19 +1,18 @@
 -- What a job asks for: the values of its fields.
-use Rattle.std.specs.Prelude.{ℕ, Bool, true, false, List, [], Option, None, is_some, option_and_then, if◌then◌else◌}
+use Rattle.std.specs.Prelude.{ℕ, Bool, true, false, List, [], Option, None, is_some, unwrap_or, option_and_then, if◌then◌else◌}
 use Rattle.std.specs.List.{filter_map}
-use Rattle.std.specs.Option.{option_map_or}
 use Rattle.serde_json.specs.Data.{Data}
-use Rattle.serde_json.specs.Find.{get, as_array}
+use Rattle.serde_json.specs.Find.{get}
+use Rattle.esa_json.specs.Values.{values_in, number_in}
+use Rattle.esa_params.specs.declared.draw.Draw.{Draw}
 use Rattle.esa_job.specs.declared.command.Command.{Command}
 use Rattle.esa_job.specs.declared.field.JobField.{JobField}
 use Rattle.esa_job.specs.declared.field.JobField.TheVariants as the
 use Rattle.esa_job.specs.declared.field.Need.{Need}
 use Rattle.esa_job.specs.declared.field.Need.TheVariants.{Unused, Optional, Needed}
-use Rattle.esa_job.specs.declared.value.Draw.{Draw}
 use Rattle.esa_job.specs.declared.value.Mode.{Mode}
-use Rattle.esa_job.specs.Table.{need_of}
-use Rattle.esa_job.specs.Values.{name_in, number_in, key_in, draw_in, mode_in, list_of}
-use Rattle.esa_job.specs.Word.{field_word}
+use Rattle.esa_job.specs.Table.{field_word, need_of}
+use Rattle.esa_job.specs.Values.{name_in, key_in, draw_in, mode_in}
 
 -- a job: its command, and the JSON object that its file is
 pub record Request : Type 0 where
@@ -55,7 +54,7 @@ mode_at job = option_and_then mode_in (value_at job the.Mode)
 
 -- the values of the list of inputs
 abbrev pub list_at : Request → List Data
-list_at job = option_map_or list_of (option_and_then as_array (value_at job the.Inputs)) []
+list_at job = unwrap_or (option_and_then values_in (value_at job the.Inputs)) []
 
 -- the names of the inputs
 abbrev pub inputs_at : Request → List (List ℕ)

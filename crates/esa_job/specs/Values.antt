@@ -1,17 +1,18 @@
 -- What the values of a job's fields are, by their types.
-use Rattle.std.specs.Prelude.{ℕ, Bool, true, false, ◌&&◌, nat_le, List, [], ◌∷◌, length, codes, bytes_eq, Option, Some, None, is_some, option_and_then, if◌then◌else◌}
+use Rattle.std.specs.Prelude.{ℕ, Bool, true, false, ◌&&◌, nat_le, List, length, codes, bytes_eq, Option, Some, None, is_some, option_and_then, if◌then◌else◌}
 use Rattle.std.specs.List.{list_all}
 use Rattle.std.specs.Option.{option_map_or}
 use Rattle.std.specs.Result.{result_ok}
 use Rattle.hex.specs.Hex.{decode_sized}
-use Rattle.serde_json.specs.Data.{Data, Items, no_items, item}
-use Rattle.serde_json.specs.Find.{as_str, as_array, as_number, as_u64}
+use Rattle.serde_json.specs.Data.{Data}
+use Rattle.serde_json.specs.Find.{as_str}
+use Rattle.esa_json.specs.Values.{values_in, number_in}
+use Rattle.esa_params.specs.declared.draw.Draw.{Draw}
+use Rattle.esa_params.specs.declared.draw.Draw.TheVariants.{Single, Separators}
 use Rattle.esa_params.specs.declared.form.Form.{Form}
 use Rattle.esa_params.specs.declared.form.Form.TheVariants.{One, Two}
 use Rattle.esa_job.specs.declared.field.Kind.{Kind}
 use Rattle.esa_job.specs.declared.field.Kind.TheVariants as kind
-use Rattle.esa_job.specs.declared.value.Draw.{Draw}
-use Rattle.esa_job.specs.declared.value.Draw.TheVariants.{Single, Separators}
 use Rattle.esa_job.specs.declared.value.Mode.{Mode}
 use Rattle.esa_job.specs.declared.value.Mode.TheVariants.{Turns, Crew}
 
@@ -30,10 +31,6 @@ name_in value = option_filter is_short (as_str value)
 
 abbrev pub is_name : Data → Bool
 is_name value = is_some (name_in value)
-
--- the whole number from 0 to 2^64 - 1 that a value is
-abbrev pub number_in : Data → Option ℕ
-number_in value = option_and_then as_u64 (as_number value)
 
 -- the 32 bytes of 64 hexadecimal digits that a value is
 abbrev pub key_in : Data → Option (List ℕ)
@@ -64,17 +61,12 @@ abbrev pub form_number : Form → ℕ
 form_number One = 1
 form_number Two = 2
 
--- the values of a JSON list
-abbrev pub list_of : Items → List Data
-list_of no_items = []
-list_of (item value values) = value ∷ list_of values
-
 -- a list of names has 1 to 16 of them
 abbrev pub is_name_list : List Data → Bool
 is_name_list values = nat_le 1 (length values) && nat_le (length values) 16 && list_all is_name values
 
 abbrev pub holds_names : Data → Bool
-holds_names value = option_map_or (λ values. is_name_list (list_of values)) (as_array value) false
+holds_names value = option_map_or is_name_list (values_in value) false
 
 -- a value is of a type
 abbrev pub accepts : Kind → Data → Bool

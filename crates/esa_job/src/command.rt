@@ -1,7 +1,7 @@
 //! The commands, and the words that name them.
 
 ghost use Rattle.std.specs.Prelude.{◌≡◌, ◌≢◌, ◌≤◌, length, IfSome, IsNone};
-ghost use Rattle.esa_job.specs.Table.{only_plans};
+ghost use Rattle.esa_job.specs.Table.{only_plans, place_of, is_among};
 ghost use Rattle.esa_job.specs.Word.{command_word};
 
 /// A command of the program.
@@ -56,6 +56,34 @@ impl Command {
             Command::Plan => "plan",
             Command::Audit => "audit",
         }
+    }
+
+    // The command's place among the commands.
+    fn place(self) -> u8
+        ensures { result ≡ place_of self }
+    {
+        match self {
+            Command::Gen => 0,
+            Command::Encode => 1,
+            Command::Batch => 2,
+            Command::Intake => 3,
+            Command::Shuffle => 4,
+            Command::Run => 5,
+            Command::Relay => 6,
+            Command::Analyse => 7,
+            Command::Histogram => 8,
+            Command::Upgrade => 9,
+            Command::Recover => 10,
+            Command::Plan => 11,
+            Command::Audit => 12,
+        }
+    }
+
+    // Whether the command is one of these.
+    pub(crate) fn is_among(self, commands: &[Command]) -> bool
+        ensures { result ≡ is_among commands.now self }
+    {
+        commands.iter().any(|named| named.place() == self.place())
     }
 
     // Whether the command takes a plan for what it is, so that nothing is shuffled.

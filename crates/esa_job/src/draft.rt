@@ -3,13 +3,14 @@
 ghost use Rattle.std.specs.Prelude.{◌≡◌, map, bytes_eq, option_map};
 ghost use Rattle.std.specs.List.{list_any};
 ghost use Rattle.serde_json.specs.View.{view};
-ghost use Rattle.esa_job.specs.Refusal.{is_ill_typed, is_missing, lacks_coins, draws_separators, breaks_rule, is_bad, first_bad, runs_crew, crew_refusal, is_name_of, is_named, has_name, is_taken, clashes, first_clash, params_of, number_or_zero, first_param_past, is_past, first_other_past, first_limit_past, field_refusal, refusal_of};
+ghost use Rattle.esa_job.specs.Refusal.{is_ill_typed, is_missing, lacks_coins, draws_separators, breaks_rule, is_bad, first_bad, runs_crew, crew_refusal, is_name_of, is_named, has_name, is_taken, clashes, first_clash, params_of, number_or_zero, first_param_past, is_past, param_of, first_past_field, first_other_past, first_limit_past, field_refusal, refusal_of};
 
 use crate::command::Command;
 use crate::field::{JobField, Need};
 use crate::job::JobRefused;
-use crate::value::{Draw, Mode, draw_in, key_in, mode_in, name_in, number_in};
-use esa_params::{ParamField, Params, check};
+use crate::value::{Mode, draw_in, key_in, mode_in, name_in};
+use esa_json::{number_in, values_in};
+use esa_params::{Draw, ParamField, Params, check};
 use serde_json::Value;
 
 /// The command of a job, and the JSON object that its file is.
@@ -167,10 +168,7 @@ impl Draft {
         ensures { map view result.now ≡ list_at (drafted self.now) }
     {
         match self.value(JobField::Inputs) {
-            Some(value) => match value.as_array() {
-                Some(values) => values.as_slice(),
-                None => &[],
-            },
+            Some(value) => values_in(value).unwrap_or(&[]),
             None => &[],
         }
     }
@@ -277,37 +275,36 @@ impl Draft {
         }
     }
 
-    // Whether the number is there, and isn't from a least to a greatest one.
-    fn is_past(&self, field: JobField, least: u64, greatest: u64) -> bool
-        ensures { result ≡ is_past (drafted self.now) field least greatest }
+    // Whether the number is there, and isn't within the limits of its row.
+    fn is_past(&self, field: JobField) -> bool
+        ensures { result ≡ is_past (drafted self.now) field }
     {
-        match self.number_of(field) {
-            Some(number) => !(least <= number && number <= greatest),
-            None => false,
+        match (field.limits(), self.number_of(field)) {
+            (Some(limits), Some(number)) => {
+                number < u64::from(limits.least) || u64::from(limits.greatest) < number
+            }
+            _ => false,
         }
     }
 
     // The first of the other numbers that is past its limits.
+    #[tactic(auto, unfolding(crate::specs::Table::limited_fields))]
+    fn first_past_field(&self) -> Option<JobField>
+        ensures { result ≡ first_past_field (drafted self.now) }
+    {
+        JobField::LIMITED
+            .iter()
+            .copied()
+            .find(|field| self.is_past(*field))
+    }
+
     #[tactic(auto, unfolding(crate::specs::Refusal::first_other_past))]
     fn first_other_past(&self) -> Option<ParamField>
         ensures { result ≡ first_other_past (drafted self.now) }
     {
-        if self.is_past(JobField::M, 1, 262_144) {
-            Some(ParamField::M)
-        } else if self.is_past(JobField::T, 1, 262_144) {
-            Some(ParamField::T)
-        } else if self.is_past(JobField::Records, 1, 262_144) {
-            Some(ParamField::Records)
-        } else if self.is_past(JobField::Crowds, 1, 65_536) {
-            Some(ParamField::Crowds)
-        } else if self.is_past(JobField::Form, 1, 2) {
-            Some(ParamField::Form)
-        } else if self.is_past(JobField::Epoch, 0, 4_294_967_295) {
-            Some(ParamField::Epoch)
-        } else if self.is_past(JobField::Shares, 2, 16) {
-            Some(ParamField::Shares)
-        } else {
-            None
+        match self.first_past_field() {
+            Some(field) => param_of(field),
+            None => None,
         }
     }
 
@@ -354,4 +351,14 @@ fn is_among(values: &[Value], name: &str) -> bool
     ensures { result ≡ list_any (λ value. is_name_of name.now (view value)) values.now }
 {
     values.iter().any(|value| is_name_of(value, name))
+}
+
+// What a number that is past the limits of its row is refused as.
+fn param_of(field: JobField) -> Option<ParamField>
+    ensures { result ≡ param_of field }
+{
+    match field.limits() {
+        Some(limits) => Some(limits.param),
+        None => None,
+    }
 }

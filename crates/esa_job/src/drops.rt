@@ -5,6 +5,7 @@ ghost use Rattle.esa_bytes.specs.Lines.{text_lines};
 ghost use Rattle.esa_job.specs.Drops.{drop_in};
 
 use esa_bytes::{decimal, line_at};
+use esa_params::MOST_OF_A_CROWD;
 use std::marker::Model;
 
 /// Why a drops file was refused.
@@ -93,7 +94,7 @@ fn drop_of(line: &[u8]) -> Option<u32>
 {
     match decimal(line) {
         Some(number) => {
-            if number <= 262_144 {
+            if number <= u64::from(MOST_OF_A_CROWD) {
                 Some(number as u32)
             } else {
                 None

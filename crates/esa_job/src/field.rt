@@ -1,10 +1,10 @@
-//! The table of a job's fields: the name of each, the type of its value, and which commands use it.
+//! The fields of a job, the order in which they are looked at, and what the table says of each.
 
 ghost use Rattle.std.specs.Prelude.{◌≡◌, ◌≤◌, length};
-ghost use Rattle.esa_job.specs.Word.{field_word};
-ghost use Rattle.esa_job.specs.Table.{kind_of, need_of};
+ghost use Rattle.esa_job.specs.Table.{field_word, kind_of, limits_of, need_of};
 
 use crate::command::Command;
+use crate::table::Limits;
 
 /// A field of a job, or the job as a whole.
 #[derive(Clone, Copy, PartialEq, Eq, Debug)]
@@ -142,171 +142,50 @@ impl JobField {
         JobField::Coins,
     ];
 
+    // The numbers that have limits of their own, in the order in which these are looked at.
+    pub(crate) const LIMITED: [JobField; 7] = [
+        JobField::M,
+        JobField::T,
+        JobField::Records,
+        JobField::Crowds,
+        JobField::Form,
+        JobField::Epoch,
+        JobField::Shares,
+    ];
+
     /// The field's name: 1 to 10 bytes.
     pub fn word(self) -> &'static str
         ensures word { result.now ≡ field_word self }
         ensures short { length result.now ≤ 10 }
     {
-        match self {
-            JobField::Job => "job",
-            JobField::Keys => "keys",
-            JobField::Input => "input",
-            JobField::Inputs => "inputs",
-            JobField::Output => "output",
-            JobField::Trace => "trace",
-            JobField::Turns => "turns",
-            JobField::TurnsOut => "turns_out",
-            JobField::Drops => "drops",
-            JobField::Coins => "coins",
-            JobField::Seed => "seed",
-            JobField::Draw => "draw",
-            JobField::Records => "records",
-            JobField::Crowds => "crowds",
-            JobField::Number => "number",
-            JobField::NonceBase => "nonce_base",
-            JobField::Form => "form",
-            JobField::Epoch => "epoch",
-            JobField::Shares => "shares",
-            JobField::B => "b",
-            JobField::C => "c",
-            JobField::S => "s",
-            JobField::K => "k",
-            JobField::W => "w",
-            JobField::Q => "q",
-            JobField::Workers => "workers",
-            JobField::Attempts => "attempts",
-            JobField::M => "m",
-            JobField::T => "t",
-            JobField::Mode => "mode",
-        }
+        self.row().word
     }
 
     // The type of the field's value.
     pub(crate) fn kind(self) -> Kind
         ensures { result ≡ kind_of self }
     {
-        match self {
-            JobField::Keys
-            | JobField::Input
-            | JobField::Output
-            | JobField::Trace
-            | JobField::Turns
-            | JobField::TurnsOut
-            | JobField::Drops
-            | JobField::Coins => Kind::Name,
-            JobField::Inputs => Kind::Names,
-            JobField::Seed => Kind::Seed,
-            JobField::Draw => Kind::Draw,
-            JobField::Mode => Kind::Mode,
-            _ => Kind::Number,
-        }
+        self.row().kind
+    }
+
+    // The limits of a number that has limits of its own.
+    pub(crate) fn limits(self) -> Option<Limits>
+        ensures { result ≡ limits_of self }
+    {
+        self.row().limits
     }
 
     /// What the command makes of the field.
     pub fn need(self, command: Command) -> Need
         ensures { result ≡ need_of self command }
     {
-        match self {
-            JobField::Job => Need::Unused,
-            JobField::Keys => match command {
-                Command::Encode
-                | Command::Shuffle
-                | Command::Run
-                | Command::Relay
-                | Command::Analyse => Need::Needed,
-                _ => Need::Unused,
-            },
-            JobField::Input => match command {
-                Command::Gen | Command::Intake | Command::Plan => Need::Unused,
-                _ => Need::Needed,
-            },
-            JobField::Inputs => match command {
-                Command::Intake => Need::Needed,
-                _ => Need::Unused,
-            },
-            JobField::Output => match command {
-                Command::Histogram | Command::Plan | Command::Audit => Need::Unused,
-                _ => Need::Needed,
-            },
-            JobField::Trace => match command {
-                Command::Shuffle | Command::Run | Command::Relay | Command::Plan => Need::Optional,
-                _ => Need::Unused,
-            },
-            // The coins or the seed have to be there: which of them is a rule of its own.
-            JobField::Turns | JobField::Coins | JobField::Seed | JobField::Draw => match command {
-                Command::Shuffle | Command::Run | Command::Relay | Command::Plan | Command::Audit =>
-                    Need::Optional,
-                _ => Need::Unused,
-            },
-            JobField::TurnsOut => match command {
-                Command::Shuffle | Command::Run | Command::Relay => Need::Optional,
-                _ => Need::Unused,
-            },
-            JobField::Drops => match command {
-                Command::Shuffle | Command::Run => Need::Optional,
-                _ => Need::Unused,
-            },
-            JobField::Records => match command {
-                Command::Gen | Command::Plan | Command::Audit => Need::Needed,
-                _ => Need::Unused,
-            },
-            JobField::Crowds | JobField::Number => match command {
-                Command::Gen => Need::Needed,
-                _ => Need::Unused,
-            },
-            JobField::NonceBase => match command {
-                Command::Encode | Command::Relay => Need::Needed,
-                _ => Need::Unused,
-            },
-            JobField::Form => match command {
-                Command::Encode
-                | Command::Batch
-                | Command::Intake
-                | Command::Plan
-                | Command::Audit => Need::Optional,
-                _ => Need::Unused,
-            },
-            JobField::Epoch => match command {
-                Command::Encode | Command::Batch | Command::Intake => Need::Optional,
-                _ => Need::Unused,
-            },
-            JobField::Shares => match command {
-                Command::Encode => Need::Optional,
-                _ => Need::Unused,
-            },
-            JobField::B
-            | JobField::C
-            | JobField::S
-            | JobField::K
-            | JobField::W
-            | JobField::Q
-            | JobField::Workers
-            | JobField::Attempts => match command {
-                Command::Shuffle | Command::Run | Command::Relay | Command::Plan | Command::Audit =>
-                    Need::Needed,
-                _ => Need::Unused,
-            },
-            JobField::M => match command {
-                Command::Batch
-                | Command::Intake
-                | Command::Shuffle
-                | Command::Run
-                | Command::Relay => Need::Needed,
-                _ => Need::Unused,
-            },
-            JobField::T => match command {
-                Command::Shuffle | Command::Run => Need::Needed,
-                _ => Need::Unused,
-            },
-            JobField::Mode => match command {
-                Command::Intake
-                | Command::Shuffle
-                | Command::Run
-                | Command::Relay
-                | Command::Plan
-                | Command::Audit => Need::Needed,
-                _ => Need::Unused,
-            },
+        let row = self.row();
+        if command.is_among(row.needed) {
+            Need::Needed
+        } else if command.is_among(row.optional) {
+            Need::Optional
+        } else {
+            Need::Unused
         }
     }
 }

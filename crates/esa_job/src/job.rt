@@ -8,9 +8,9 @@ ghost use Rattle.esa_job.specs.Values.{form_number};
 use crate::command::Command;
 use crate::draft::Draft;
 use crate::field::{JobField, Kind};
-use crate::value::{Draw, Mode, name_in};
+use crate::value::{Mode, name_in};
 use esa_json::read_object;
-use esa_params::{Form, ParamField, Settings, check};
+use esa_params::{Draw, Form, ParamField, Settings, check};
 use std::alloc::Global;
 
 /// Why a job was refused.
@@ -32,12 +32,12 @@ pub struct Job {
 }
 
 impl Job {
-    ghost use Rattle.std.specs.Prelude.{◌⊎◌, false, IfOk, IfErr, IfSome, option_map, slice_get};
+    ghost use Rattle.std.specs.Prelude.{◌⊎◌, IfOk, IfErr, IfSome, IsSome, option_map, slice_get};
     ghost use Rattle.esa_params.specs.Limits.{numbers_of};
-    ghost use Rattle.esa_job.specs.Refusal.{job_of, is_past, params_of};
+    ghost use Rattle.esa_job.specs.Refusal.{job_of, params_of};
     ghost use Rattle.esa_job.specs.Request.{name_at, number_at, inputs_at, seed_at, draw_at, mode_at};
     ghost use Rattle.esa_job.specs.Seen.{request_of, Needs};
-    ghost use Rattle.esa_job.specs.Table.{kind_of};
+    ghost use Rattle.esa_job.specs.Table.{kind_of, limits_of};
 
     /// Reads the job of a command from the bytes of its file, of which `job_name` is the name.
     ///
@@ -98,11 +98,9 @@ impl Job {
     pub fn inputs(&self, place: usize) -> Option<&str>
         ensures { option_map (λ name. name.now) result ≡ slice_get (inputs_at (request_of self.now)) place }
     {
-        let values = self.draft.inputs();
-        if place < values.len() {
-            name_in(&values[place])
-        } else {
-            None
+        match self.draft.inputs().get(place) {
+            Some(value) => name_in(value),
+            None => None,
         }
     }
 
@@ -174,7 +172,7 @@ impl Job {
         ensures value { number_at (request_of self.now) JobField.Records ≡ Some result }
         ensures limits { (1 ≤ result) × (result ≤ 262144) }
     {
-        self.limited_number(JobField::Records, 1, 262_144)
+        self.limited_number(JobField::Records)
     }
 
     /// The number of crowds: 1 to 65,536.
@@ -183,7 +181,7 @@ impl Job {
         ensures value { number_at (request_of self.now) JobField.Crowds ≡ Some result }
         ensures limits { (1 ≤ result) × (result ≤ 65536) }
     {
-        self.limited_number(JobField::Crowds, 1, 65_536)
+        self.limited_number(JobField::Crowds)
     }
 
     /// The number that the generator starts from.
@@ -206,7 +204,7 @@ impl Job {
     pub fn form(&self) -> Option<Form>
         ensures { option_map form_number result ≡ number_at (request_of self.now) JobField.Form }
     {
-        match self.draft.number_of(JobField::Form) {
+        match self.optional_number(JobField::Form) {
             Some(number) => Some(form_numbered(number)),
             None => None,
         }
@@ -216,10 +214,7 @@ impl Job {
     pub fn epoch(&self) -> Option<u32>
         ensures { result ≡ number_at (request_of self.now) JobField.Epoch }
     {
-        match self.draft.number_of(JobField::Epoch) {
-            Some(epoch) => Some(epoch as u32),
-            None => None,
-        }
+        self.optional_number(JobField::Epoch)
     }
 
     /// The number of shares that give a value: 2 to 16. Values are sent whole where the job doesn't say.
@@ -227,7 +222,7 @@ impl Job {
         ensures value { result ≡ number_at (request_of self.now) JobField.Shares }
         ensures limits { IfSome result (λ shares. (2 ≤ shares) × (shares ≤ 16)) }
     {
-        match self.draft.number_of(JobField::Shares) {
+        match self.optional_number(JobField::Shares) {
             Some(shares) => Some(shares as u8),
             None => None,
         }
@@ -252,7 +247,7 @@ impl Job {
         ensures value { number_at (request_of self.now) JobField.M ≡ Some result }
         ensures limits { (1 ≤ result) × (result ≤ 262144) }
     {
-        self.limited_number(JobField::M, 1, 262_144)
+        self.limited_number(JobField::M)
     }
 
     /// The least number of reports of a crowd: 1 to 262,144.
@@ -261,7 +256,7 @@ impl Job {
         ensures value { number_at (request_of self.now) JobField.T ≡ Some result }
         ensures limits { (1 ≤ result) × (result ≤ 262144) }
     {
-        self.limited_number(JobField::T, 1, 262_144)
+        self.limited_number(JobField::T)
     }
 
     /// Who takes the turns.
@@ -290,20 +285,32 @@ impl Job {
         self.draft.number_of(field).unwrap()
     }
 
-    // A number that keeps its limits.
-    fn limited_number(&self, field: JobField, least: u64, greatest: u32) -> u32
+    // A number within the limits of its row.
+    fn limited_number(&self, field: JobField) -> u32
         requires kind { kind_of field ≡ Kind.Number }
         requires needed { Needs self.now field }
-        requires kept { is_past (request_of self.now) field least greatest ≡ false }
+        requires limited { IsSome (limits_of field) }
         ensures value { number_at (request_of self.now) field ≡ Some result }
-        ensures limits { (least ≤ result) × (result ≤ greatest) }
+        ensures limits { IfSome (limits_of field) (λ limits. (limits.least ≤ result) × (result ≤ limits.greatest)) }
     {
         self.needed_number(field) as u32
+    }
+
+    // A number within the limits of its row, if it is there.
+    fn optional_number(&self, field: JobField) -> Option<u32>
+        requires limited { IsSome (limits_of field) }
+        ensures value { result ≡ number_at (request_of self.now) field }
+        ensures limits { IfSome result (λ number. IfSome (limits_of field) (λ limits. (limits.least ≤ number) × (number ≤ limits.greatest))) }
+    {
+        match self.draft.number_of(field) {
+            Some(number) => Some(number as u32),
+            None => None,
+        }
     }
 }
 
 // The form that a number stands for.
-fn form_numbered(number: u64) -> Form
+fn form_numbered(number: u32) -> Form
     requires { (1 ≤ number) × (number ≤ 2) }
     ensures { form_number result ≡ number }
 {

@@ -3,20 +3,13 @@
 ghost use Rattle.std.specs.Prelude.{◌≡◌, map, option_map};
 ghost use Rattle.std.specs.List.{list_all};
 ghost use Rattle.serde_json.specs.View.{view};
-ghost use Rattle.esa_job.specs.Values.{accepts, draw_in, key_in, mode_in, name_in, number_in, is_name, is_name_list, holds_names, draw_named, mode_named};
+ghost use Rattle.esa_job.specs.Values.{accepts, draw_in, key_in, mode_in, name_in, is_name, is_name_list, holds_names, draw_named, mode_named};
 
 use crate::field::Kind;
+use esa_json::{number_in, values_in};
+use esa_params::{Draw, MOST_INPUTS, MOST_OF_A_NAME};
 use hex::FromHex;
 use serde_json::Value;
-
-/// How the targets of a bucket are drawn.
-#[derive(Clone, Copy, PartialEq, Eq, Debug)]
-pub enum Draw {
-    /// Each target by itself.
-    Single,
-    /// Together, by shuffling the bucket's places among separators.
-    Separators,
-}
 
 /// Who takes the turns of a shuffle.
 #[derive(Clone, Copy, PartialEq, Eq, Debug)]
@@ -32,16 +25,9 @@ pub(crate) fn name_in(value: &Value) -> Option<&str>
     ensures { option_map (λ text. text.now) result ≡ name_in (view value.now) }
 {
     match value.as_str() {
-        Some(text) if !text.is_empty() && text.len() <= 255 => Some(text),
+        Some(text) if !text.is_empty() && text.len() <= MOST_OF_A_NAME => Some(text),
         _ => None,
     }
-}
-
-/// A whole number from 0 to 2^64 - 1.
-pub(crate) fn number_in(value: &Value) -> Option<u64>
-    ensures { result ≡ number_in (view value.now) }
-{
-    value.as_u64()
 }
 
 /// 32 bytes as 64 hexadecimal digits, of either case.
@@ -105,15 +91,15 @@ fn are_names(values: &[Value]) -> bool
 fn is_name_list(values: &[Value]) -> bool
     ensures { result ≡ is_name_list (map view values.now) }
 {
-    1 <= values.len() && values.len() <= 16 && are_names(values)
+    1 <= values.len() && values.len() <= MOST_INPUTS && are_names(values)
 }
 
 // Whether the value is a list of 1 to 16 names.
 fn holds_names(value: &Value) -> bool
     ensures { result ≡ holds_names (view value.now) }
 {
-    match value.as_array() {
-        Some(values) => is_name_list(values.as_slice()),
+    match values_in(value) {
+        Some(values) => is_name_list(values),
         None => false,
     }
 }

@@ -6,5 +6,5 @@ use Rattle.esa_cli.proofs.analyse.count.Goals as goal
 
 pub returns : goal.returns
 returns c =
-    let is = counts c.in_ok-analysis.analysis c.count.new.self _ _ c.inner_keys-keys.result c.args.forwarded.now c.bytes.result.now c.in_ok-analysis.ensures c.bytes.ensures c.requires c.count.ensures.counted in
-    record { form = is.0; database = is.1 ∙ ap (λ keys. database_of keys (envelopes_of c.args.forwarded.now)) c.inner_keys-keys.ensures }
+    let is = counts c.in_ok-analysis.analysis c.count.new.self _ _ c.record_keys-keys.result c.args.forwarded.now c.bytes.result.now c.in_ok-analysis.ensures c.bytes.ensures c.requires c.count.ensures.counted in
+    record { form = is.0; database = is.1 ∙ ap (λ keys. database_of keys (envelopes_of c.args.forwarded.now)) c.record_keys-keys.ensures }

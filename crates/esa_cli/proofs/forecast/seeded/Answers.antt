@@ -1,6 +1,6 @@
 use Rattle.std.proofs.Common.{◌∙◌, ap}
 use Rattle.std.specs.Prelude.{unwrap_or, replicate}
-use Rattle.esa_job.specs.declared.value.Draw.TheVariants.{Single}
+use Rattle.esa_params.specs.declared.draw.Draw.TheVariants.{Single}
 use Rattle.esa_cli.proofs.forecast.seeded.Goals as goal
 
 pub returns : goal.returns

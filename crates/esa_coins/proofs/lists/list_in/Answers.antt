@@ -4,8 +4,8 @@ use Rattle.esa_coins.proofs.lists.list_in.Goals as goal
 
 pub returns-then-values-count : goal.returns-then-values-count
 returns-then-values-count c =
-    rw c.in-Some.is (list_in-slice view c.args.count c.args.refused (view c.in-Some.value.now) c.in-Some-as_array.values.now.items c.as_slice-values.result.now c.in-Some-as_array.ensures c.as_slice-values.ensures.value c.if-values-count.true)
+    rw c.in-Some.is (list_in-slice view c.args.count c.args.refused (view c.in-Some.value.now) c.in-Some-values_in.values.now c.in-Some-values_in.ensures c.if-values-count.true)
 
 pub returns-else-values-count : goal.returns-else-values-count
 returns-else-values-count c =
-    rw c.in-Some.is (list_in-other view c.args.count c.args.refused (view c.in-Some.value.now) c.in-Some-as_array.values.now.items c.as_slice-values.result.now c.in-Some-as_array.ensures c.as_slice-values.ensures.value c.if-values-count.false)
+    rw c.in-Some.is (list_in-other view c.args.count c.args.refused (view c.in-Some.value.now) c.in-Some-values_in.values.now c.in-Some-values_in.ensures c.if-values-count.false)

@@ -2,7 +2,7 @@ use Rattle.std.proofs.Common.{ℕ, Ok, inr, sym, ap, ◌∙◌}
 use Rattle.std.specs.Option.{ok_or}
 use Rattle.serde_json.specs.Data.{Data}
 use Rattle.serde_json.specs.View.{view}
-use Rattle.esa_job.specs.Values.{number_in}
+use Rattle.esa_json.specs.Values.{number_in}
 use Rattle.esa_coins.proofs.EachLaws.{each_more, seen_refused, seen_all}
 use Rattle.esa_coins.proofs.lists.whole_numbers.Goals as goal
 

@@ -1,7 +1,7 @@
 use Rattle.std.proofs.Common.{◌≡◌, take, Ok}
 use Rattle.std.specs.Option.{ok_or}
 use Rattle.serde_json.specs.View.{view}
-use Rattle.esa_job.specs.Values.{number_in}
+use Rattle.esa_json.specs.Values.{number_in}
 use Rattle.esa_coins.specs.Table.{each}
 use Rattle.esa_coins.proofs.lists.whole_numbers.Given as goal
 

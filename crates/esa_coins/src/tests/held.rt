@@ -1,16 +1,16 @@
 //! Whether coins keep what they promise, by looking.
 
-ghost use Rattle.std.specs.Prelude.{◌≡◌, ◌+◌, ◌-◌, ◌*◌, ◌^◌, ◌<◌, ◌≤◌, ◌==◌, ◌↔◌, true, length, All, IsTrue, IsPermutation};
+ghost use Rattle.std.specs.Prelude.{◌≡◌, ◌+◌, ◌-◌, ◌*◌, ◌<◌, ◌==◌, ◌↔◌, true, length, All, IsTrue};
 ghost use Rattle.std.specs.List.{list_all, list_any};
 ghost use Rattle.esa_params.specs.Sizes.{size, below};
 
-use esa_params::Plan;
+use crate::orders::import_places;
 use esa_spec::Coins;
 
 /// Draws the targets of a bucket twice, and says whether they are the same ones and each names a bucket. They always
 /// are: the answer is proved from what all coins promise, and a body that looks shows that callers can rest on it. The
 /// targets stand in both rooms then.
-pub fn targets_hold<C: Coins>(
+pub(crate) fn targets_hold<C: Coins>(
     coins: &C,
     attempt: u32,
     bucket: u32,
@@ -35,7 +35,7 @@ pub fn targets_hold<C: Coins>(
 
 /// Draws the order of a target twice, and says whether it is the same one and names each place of an import once. It
 /// always does, and stands in both rooms then.
-pub fn order_holds<C: Coins>(
+pub(crate) fn order_holds<C: Coins>(
     coins: &C,
     attempt: u32,
     target: u32,
@@ -54,13 +54,6 @@ pub fn order_holds<C: Coins>(
     coins.order(attempt, target, second);
     let places = import_places(&coins.plan());
     names_each(first, places) && are_same(first, second)
-}
-
-// The places of an import: its chunks and its tail.
-pub(crate) fn import_places(plan: &Plan) -> u32
-    ensures { result ≡ plan.now.b * plan.now.c + plan.now.k }
-{
-    plan.b() * plan.c() + plan.k()
 }
 
 fn are_below(numbers: &[u32], bound: u32) -> bool

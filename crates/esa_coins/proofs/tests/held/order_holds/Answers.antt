@@ -2,7 +2,7 @@ use Rattle.std.proofs.Common.{ℕ, ◌+◌, ◌*◌, sym, ap, ◌∙◌, subst}
 use Rattle.std.specs.List.Sorted.{IsPermutation}
 use Rattle.esa_params.specs.Sizes.{Sizes, below}
 use Rattle.esa_coins.proofs.Found.{all_found}
-use Rattle.esa_coins.proofs.check.order_holds.Goals as goal
+use Rattle.esa_coins.proofs.tests.held.order_holds.Goals as goal
 
 pub returns-else-names_each-clause-holds : goal.returns-else-names_each-clause-holds
 returns-else-names_each-clause-holds g c =

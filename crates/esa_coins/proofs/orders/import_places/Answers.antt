@@ -1,6 +1,6 @@
 use Rattle.std.proofs.Common.{◌≤◌, ◌*◌, arith}
 use Rattle.std.proofs.lemmas.Nat.{mul-le}
-use Rattle.esa_coins.proofs.check.import_places.Goals as goal
+use Rattle.esa_coins.proofs.orders.import_places.Goals as goal
 
 pub overflow_mul-result : goal.overflow_mul-result
 overflow_mul-result c =
