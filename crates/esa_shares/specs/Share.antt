@@ -1,5 +1,5 @@
 -- What is sent as a share of a value.
-use Rattle.std.specs.Prelude.{ℕ, ◌+◌, ◌-◌, ◌/◌, ◌%◌, ◌==◌, nat_lt, if◌then◌else◌, List, [], ◌∷◌, ◌++◌, length, take, map, flat_map, slice_index, Some, None}
+use Rattle.std.specs.Prelude.{Bool, ◌&&◌, nat_le, ℕ, ◌+◌, ◌-◌, ◌/◌, ◌%◌, ◌==◌, nat_lt, if◌then◌else◌, List, [], ◌∷◌, ◌++◌, length, take, map, flat_map, slice_index, Some, None}
 use Rattle.std.specs.List.{range_with_len}
 use Rattle.sha2.specs.Sha256.{sha256}
 use Rattle.esa_hmac.specs.Hmac.{hmac}
@@ -14,6 +14,12 @@ mark_of value = take 16 (sha256 value)
 -- the byte 0xe5, how many shares it takes, the point, the value's mark, and the share
 abbrev pub share_record : (t point : ℕ) → (mark share : List ℕ) → List ℕ
 share_record t point mark share = 229 ∷ t ∷ point ∷ (mark ++ share)
+
+-- a share record: the byte 0xe5, two to 16 shares, a point that is not 0, a mark, and at least one byte of a share
+abbrev pub is_share : List ℕ → Bool
+is_share value =
+    nat_lt 19 (length value) && slice_index value 0 == 229 && nat_le 2 (slice_index value 1) && nat_le (slice_index value 1) 16
+    && nat_lt 0 (slice_index value 2)
 
 -- the coefficient of byte y at a power of x: a byte of an HMAC of both and the value
 abbrev pub coefficient_byte : List ℕ → List ℕ → ℕ → ℕ → ℕ
