@@ -14,3 +14,6 @@ mod runs;
 mod table;
 
 pub use table::Table;
+
+#[cfg(test)]
+mod tests;

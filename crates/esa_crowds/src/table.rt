@@ -68,8 +68,9 @@ impl Table {
     pub fn add(&mut self, codes: &Mac, text: &[u8])
         requires whole { length text.now ≡ 32 + inner_length self.old.form }
         requires room { self.old.next < self.old.room }
-        ensures { (key : List ℕ) → StandsFor codes.now key []
-            → self.new ≡ record self.old { next = self.old.next + 1; entries = self.old.entries ++ entry_in self.old.form key self.old.next text.now ∷ [] } }
+        ensures entry { (key : List ℕ) → StandsFor codes.now key []
+            → self.new.entries ≡ self.old.entries ++ entry_in self.old.form key self.old.next text.now ∷ [] }
+        ensures others { self.new ≡ record self.old { next = self.old.next + 1; entries = self.new.entries } }
     {
         self.rows.push_reserved(row_of(codes, self.next, text));
         self.next += 1;
