@@ -1,0 +1,2 @@
+pub mod Analyse
+pub mod Analysed

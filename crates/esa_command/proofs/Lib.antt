@@ -1,0 +1,6 @@
+pub mod Composition
+pub mod WholeFiles
+pub mod Readers
+pub mod Settling
+pub mod Agreeing
+pub mod Lines

@@ -1,0 +1,9 @@
+pub mod Given
+pub mod Judged
+pub mod Stand
+pub mod Step
+pub mod Taking
+pub mod Work
+pub mod Settled
+pub mod Ends
+pub mod Telling

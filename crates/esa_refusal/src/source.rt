@@ -1,0 +1,75 @@
+//! The files that a command reads and writes, by their roles.
+
+ghost use Rattle.std.specs.Prelude.{◌≡◌};
+ghost use Rattle.esa_refusal.specs.Source.{role_of, limit_of, input_limit, role_of_sink};
+
+use esa_job::Command;
+use esa_outside::Role;
+
+/// A file that a command reads, by its role.
+#[derive(Clone, Copy, PartialEq, Eq, Debug)]
+pub enum Source {
+    Job,
+    Keys,
+    Drops,
+    Turns,
+    Input,
+    Coins,
+}
+
+impl Source {
+    pub fn role(self) -> Role
+        ensures { result ≡ role_of self }
+    {
+        match self {
+            Source::Job => Role::Job,
+            Source::Keys => Role::Keys,
+            Source::Drops => Role::Drops,
+            Source::Turns => Role::Turns,
+            Source::Input => Role::Input,
+            Source::Coins => Role::Coins,
+        }
+    }
+
+    /// The most bytes that the file may have.
+    pub fn limit(self, command: Command) -> u64
+        ensures { result ≡ limit_of command self }
+    {
+        match self {
+            Source::Job | Source::Keys | Source::Drops => 65_536,
+            Source::Turns | Source::Coins => 16_777_216,
+            Source::Input => most_input(command),
+        }
+    }
+}
+
+// The most bytes of an input file.
+fn most_input(command: Command) -> u64
+    ensures { result ≡ input_limit command }
+{
+    match command {
+        Command::Batch | Command::Intake => 268_435_456,
+        Command::Audit => 67_108_864,
+        _ => 134_217_728,
+    }
+}
+
+/// A file that a command writes, by its role.
+#[derive(Clone, Copy, PartialEq, Eq, Debug)]
+pub enum Sink {
+    Output,
+    Trace,
+    TurnsOut,
+}
+
+impl Sink {
+    pub fn role(self) -> Role
+        ensures { result ≡ role_of_sink self }
+    {
+        match self {
+            Sink::Output => Role::Output,
+            Sink::Trace => Role::Trace,
+            Sink::TurnsOut => Role::TurnsOut,
+        }
+    }
+}
