@@ -4,3 +4,4 @@ pub mod RankLaws
 pub mod SortedLaws
 pub mod TableLaws
 pub mod MarkLaws
+pub mod SentLaws

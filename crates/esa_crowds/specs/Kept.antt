@@ -1,12 +1,13 @@
 -- Which entries of a list are kept, by ranks and counts.
-use Rattle.std.specs.Prelude.{ℕ, ◌+◌, nat_le, Bool, ◌&&◌, List, map, filter, count_by, slice_index, bytes_eq}
+use Rattle.std.specs.Prelude.{ℕ, suc, [], ◌∷◌, if◌then◌else◌, None, ◌+◌, nat_le, Bool, ◌&&◌, List, map, filter, count_by, slice_index, bytes_eq}
+use Rattle.std.specs.List.{cons_option}
 use Rattle.std.specs.declared.cmp.Ordering.{Ordering}
 use Rattle.std.specs.Ordering.{nat_cmp, is_lt, ordering_then}
 use Rattle.std.specs.Cmp.Lexicographic.{slice_cmp}
 use Rattle.esa_hmac.specs.Hmac.{hmac}
 use Rattle.esa_params.specs.declared.form.Form.{Form}
 use Rattle.esa_report.specs.declared.item.Item.{Item}
-use Rattle.esa_crowds.specs.Entries.{Entry, entries}
+use Rattle.esa_crowds.specs.Entries.{Entry, entries, if_real, inner_in}
 
 -- bytes are compared one by one
 abbrev pub by_bytes : List ℕ → List ℕ → Ordering
@@ -45,3 +46,9 @@ drops_in key drops crowd = slice_index drops (slice_index (hmac key crowd) 0)
 -- what is forwarded of a list of items
 abbrev pub forward : Form → List ℕ → List ℕ → ℕ → List Item → List (List ℕ)
 forward form key drops t items = forwarded (drops_in key drops) t (entries form key items)
+
+-- what a second look at a list sends: the inner envelopes of the real items at some positions, in order
+abbrev pub sent_from : Form → (ℕ → Bool) → ℕ → List Item → List (List ℕ)
+sent_from form kept position [] = []
+sent_from form kept position (item ∷ items) =
+    cons_option (if kept position then if_real item.kind (inner_in form item.body) else None) (sent_from form kept (suc position) items)
