@@ -1,0 +1,100 @@
+//! Groups by hand: the shares of `abc` under the coefficients 01 01 01 are 606362 at 1 and 636061 at 2, and the mark is the
+//! front of its SHA-256 by Python's hashlib.
+
+use crate::Meanings;
+use esa_analyser::read_db;
+use std::test::Fail;
+
+/// Two shares of a value that takes two.
+const TWO: &[u8] =
+    b"\x45\x53\x41\x44\x01\x00\x00\x00\x02\x00\x00\x00\x00\x16\xe5\x02\x01\xba\x78\x16\xbf\x8f\x01\xcf\xea\x41\x41\x40\xde\x5d\xae\x22\x23\x60\x63\x62\x00\x00\x00\x03\x16\xe5\x02\x02\xba\x78\x16\xbf\x8f\x01\xcf\xea\x41\x41\x40\xde\x5d\xae\x22\x23\x63\x60\x61\x00\x00\x00\x04";
+
+/// The first of them alone.
+const ALONE: &[u8] =
+    b"\x45\x53\x41\x44\x01\x00\x00\x00\x01\x00\x00\x00\x00\x16\xe5\x02\x01\xba\x78\x16\xbf\x8f\x01\xcf\xea\x41\x41\x40\xde\x5d\xae\x22\x23\x60\x63\x62\x00\x00\x00\x03";
+
+/// The two shares beside the value itself, a greater share at the first point, and a share at a third point.
+const GREATER: &[u8] =
+    b"\x45\x53\x41\x44\x01\x00\x00\x00\x05\x00\x00\x00\x00\x03\x61\x62\x63\x00\x00\x00\x01\x16\xe5\x02\x01\xba\x78\x16\xbf\x8f\x01\xcf\xea\x41\x41\x40\xde\x5d\xae\x22\x23\x60\x63\x62\x00\x00\x00\x03\x16\xe5\x02\x01\xba\x78\x16\xbf\x8f\x01\xcf\xea\x41\x41\x40\xde\x5d\xae\x22\x23\xff\xff\xff\x00\x00\x00\x01\x16\xe5\x02\x02\xba\x78\x16\xbf\x8f\x01\xcf\xea\x41\x41\x40\xde\x5d\xae\x22\x23\x63\x60\x61\x00\x00\x00\x04\x16\xe5\x02\x03\xba\x78\x16\xbf\x8f\x01\xcf\xea\x41\x41\x40\xde\x5d\xae\x22\x23\x00\x00\x00\x00\x00\x00\x01";
+
+/// The two shares, and a wrong one at the first point that is less than the right one.
+const LESS: &[u8] =
+    b"\x45\x53\x41\x44\x01\x00\x00\x00\x03\x00\x00\x00\x00\x16\xe5\x02\x01\xba\x78\x16\xbf\x8f\x01\xcf\xea\x41\x41\x40\xde\x5d\xae\x22\x23\x00\x00\x00\x00\x00\x00\x01\x16\xe5\x02\x01\xba\x78\x16\xbf\x8f\x01\xcf\xea\x41\x41\x40\xde\x5d\xae\x22\x23\x60\x63\x62\x00\x00\x00\x03\x16\xe5\x02\x02\xba\x78\x16\xbf\x8f\x01\xcf\xea\x41\x41\x40\xde\x5d\xae\x22\x23\x63\x60\x61\x00\x00\x00\x04";
+
+/// Records that are in one group but for their mark, their length or how many shares they take.
+const APART: &[u8] =
+    b"\x45\x53\x41\x44\x01\x00\x00\x00\x04\x00\x00\x00\x00\x16\xe5\x02\x01\xba\x78\x16\xbf\x8f\x01\xcf\xea\x41\x41\x40\xde\x5d\xae\x22\x23\x60\x63\x62\x00\x00\x00\x03\x16\xe5\x02\x02\x00\x00\x00\x00\x00\x00\x00\x00\x00\x00\x00\x00\x00\x00\x00\x00\x63\x60\x61\x00\x00\x00\x04\x15\xe5\x02\x02\xba\x78\x16\xbf\x8f\x01\xcf\xea\x41\x41\x40\xde\x5d\xae\x22\x23\x63\x60\x00\x00\x00\x04\x16\xe5\x03\x02\xba\x78\x16\xbf\x8f\x01\xcf\xea\x41\x41\x40\xde\x5d\xae\x22\x23\x63\x60\x61\x00\x00\x00\x04";
+
+/// Values that are share records but for one field: how many shares, the point, the length, the first byte.
+const ILL: &[u8] =
+    b"\x45\x53\x41\x44\x01\x00\x00\x00\x05\x00\x00\x00\x00\x16\xe4\x02\x01\xba\x78\x16\xbf\x8f\x01\xcf\xea\x41\x41\x40\xde\x5d\xae\x22\x23\x60\x63\x62\x00\x00\x00\x01\x16\xe5\x01\x01\xba\x78\x16\xbf\x8f\x01\xcf\xea\x41\x41\x40\xde\x5d\xae\x22\x23\x60\x63\x62\x00\x00\x00\x01\x16\xe5\x02\x00\xba\x78\x16\xbf\x8f\x01\xcf\xea\x41\x41\x40\xde\x5d\xae\x22\x23\x60\x63\x62\x00\x00\x00\x01\x13\xe5\x02\x01\xba\x78\x16\xbf\x8f\x01\xcf\xea\x41\x41\x40\xde\x5d\xae\x22\x23\x00\x00\x00\x01\x16\xe5\x11\x01\xba\x78\x16\xbf\x8f\x01\xcf\xea\x41\x41\x40\xde\x5d\xae\x22\x23\x60\x63\x62\x00\x00\x00\x01";
+
+/// Shares at enough points give back the value.
+#[test]
+fn recover_two(rt: HostRuntime) -> Result<(), Fail> {
+    let secret = b"abc".as_slice();
+    let db = read_db(rt.alloc(), TWO)?;
+    let meanings = Meanings::make(rt.alloc(), &db)?;
+    assert_eq!(&rt; meanings.meaning(0), Some(secret));
+    assert_eq!(&rt; meanings.meaning(1), Some(secret));
+    Ok(())
+}
+
+/// Fewer points than it takes give nothing.
+#[test]
+fn group_below_threshold(rt: HostRuntime) -> Result<(), Fail> {
+    let db = read_db(rt.alloc(), ALONE)?;
+    let meanings = Meanings::make(rt.alloc(), &db)?;
+    assert_eq!(&rt; meanings.meaning(0), None);
+    Ok(())
+}
+
+/// Of a point the least share counts, and all records of the group mean the value, also those that were not needed.
+#[test]
+fn greater_share_of_a_point(rt: HostRuntime) -> Result<(), Fail> {
+    let secret = b"abc".as_slice();
+    let db = read_db(rt.alloc(), GREATER)?;
+    let meanings = Meanings::make(rt.alloc(), &db)?;
+    assert_eq!(&rt; meanings.meaning(0), Some(secret));
+    assert_eq!(&rt; meanings.meaning(1), Some(secret));
+    assert_eq!(&rt; meanings.meaning(2), Some(secret));
+    assert_eq!(&rt; meanings.meaning(3), Some(secret));
+    assert_eq!(&rt; meanings.meaning(4), Some(secret));
+    Ok(())
+}
+
+/// So one share that is less than the right one shuts the group, since the mark does not agree.
+#[test]
+fn lesser_share_of_a_point(rt: HostRuntime) -> Result<(), Fail> {
+    let db = read_db(rt.alloc(), LESS)?;
+    let meanings = Meanings::make(rt.alloc(), &db)?;
+    assert_eq!(&rt; meanings.meaning(0), None);
+    assert_eq!(&rt; meanings.meaning(1), None);
+    assert_eq!(&rt; meanings.meaning(2), None);
+    Ok(())
+}
+
+/// Another mark, another length or another number of shares is another group.
+#[test]
+fn groups_apart(rt: HostRuntime) -> Result<(), Fail> {
+    let db = read_db(rt.alloc(), APART)?;
+    let meanings = Meanings::make(rt.alloc(), &db)?;
+    assert_eq!(&rt; meanings.meaning(0), None);
+    assert_eq!(&rt; meanings.meaning(1), None);
+    assert_eq!(&rt; meanings.meaning(2), None);
+    assert_eq!(&rt; meanings.meaning(3), None);
+    Ok(())
+}
+
+/// What is no share record means itself.
+#[test]
+fn ill_formed_records(rt: HostRuntime) -> Result<(), Fail> {
+    let db = read_db(rt.alloc(), ILL)?;
+    let meanings = Meanings::make(rt.alloc(), &db)?;
+    assert_eq!(&rt; meanings.meaning(0), Some(db.value(0)));
+    assert_eq!(&rt; meanings.meaning(1), Some(db.value(1)));
+    assert_eq!(&rt; meanings.meaning(2), Some(db.value(2)));
+    assert_eq!(&rt; meanings.meaning(3), Some(db.value(3)));
+    assert_eq!(&rt; meanings.meaning(4), Some(db.value(4)));
+    Ok(())
+}
