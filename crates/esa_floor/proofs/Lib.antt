@@ -1,4 +1,5 @@
 mod Counting
+mod Dealing
 mod Exchanging
 mod Fitting
 mod Opening

@@ -23,6 +23,7 @@ pub(crate) struct Buffers {
     items: Vec<Item>,
     targets: Vec<u32>,
     draw: Vec<u32>,
+    sealed: Vec<u8>,
     chunks: Vec<Item>,
     chunk: Vec<u8>,
     blocks: Vec<Vec<u8>>,
@@ -34,9 +35,9 @@ impl Model for Buffers {
 
     ghost Value = { Buffered };
 
-    ghost view = { λ b. record { plan = b.plan; text = b.text.items; items = b.items.items; targets = b.targets.items; chunks = b.chunks.items; blocks = blocks_in b.blocks.items } };
+    ghost view = { λ b. record { plan = b.plan; text = b.text.items; items = b.items.items; targets = b.targets.items; sealed = b.sealed.items; chunks = b.chunks.items; blocks = blocks_in b.blocks.items } };
 
-    ghost invariant = { λ b. AreBuffers b.plan b.text.items b.items.items b.targets.items b.draw.items b.chunks.items b.chunk.items (blocks_in b.blocks.items) };
+    ghost invariant = { λ b. AreBuffers b.plan b.text.items b.items.items b.targets.items b.draw.items b.chunks.items b.chunk.items b.sealed.items (blocks_in b.blocks.items) };
 }
 
 impl Buffers {
@@ -55,6 +56,7 @@ impl Buffers {
             items: vec![in alloc; Item::dummy(); size]?,
             targets: vec![in alloc; 0; size]?,
             draw: vec![in alloc; 0; size + b - 1]?,
+            sealed: vec![in alloc; 0; size * form.envelope() as usize + 40]?,
             chunks: vec![in alloc; Item::dummy(); b * c]?,
             chunk: vec![in alloc; 0; item * c]?,
             blocks: rooms(alloc, b, item * c + 40)?,

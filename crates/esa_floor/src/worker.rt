@@ -40,7 +40,7 @@ pub struct Worker<'c, C: Coins> {
 
 impl<'c, C: Coins> Model for Worker<'c, C> {
     ghost use Rattle.std.specs.Prelude.{◌≡◌, ◌<◌};
-    ghost use Rattle.esa_floor.specs.Working.{CanPrepare, Working};
+    ghost use Rattle.esa_floor.specs.Working.{Holds, Working};
 
     ghost Value = { Working C };
 
@@ -56,7 +56,7 @@ impl<'c, C: Coins> Model for Worker<'c, C> {
       buffers = w.buffers;
     } };
 
-    ghost invariant = { λ w. (C.plan w.coins.now ≡ w.buffers.plan) × CanPrepare w.buffers.plan w.attempt w.bucket w.buffers.chunks w.stage };
+    ghost invariant = { λ w. (C.plan w.coins.now ≡ w.buffers.plan) × Holds w.outer w.run (C.target_list w.coins.now) w.attempt w.bucket w.buffers w.stage };
 }
 
 impl<'c, C: Coins> Worker<'c, C> {
