@@ -1,3 +1,4 @@
+mod Acting
 mod Counting
 mod Dealing
 mod Exchanging

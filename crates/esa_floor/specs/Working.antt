@@ -1,10 +1,11 @@
 -- What contracts see of a worker, and what its private work makes of what it holds.
-use Rattle.std.specs.Prelude.{◌≡◌, ℕ, ◌+◌, ◌-◌, ◌*◌, ◌<◌, List, All, length, map, take, Option, Some, None}
+use Rattle.std.specs.Prelude.{◌≡◌, ℕ, ◌+◌, ◌-◌, ◌*◌, ◌<◌, List, [], All, length, map, take, slice_index_or, Option, Some, None}
 use Rattle.esa_envelope.specs.declared.keys.Keys.{Keys}
 use Rattle.esa_params.specs.Form.{envelope_length}
 use Rattle.esa_params.specs.Sizes.{Sizes, below, size}
 use Rattle.esa_params.specs.Slots.{item_length}
 use Rattle.esa_report.specs.declared.item.Item.{Item}
+use Rattle.esa_stash.specs.Stash.{Handed}
 use Rattle.esa_vault.specs.Placed.{IsSpelled}
 use Rattle.esa_floor.specs.Private.{AreRooms, AreSealed, item_opened}
 use Rattle.esa_floor.specs.declared.worker.Stage.{Stage}
@@ -22,6 +23,14 @@ pub record Buffered : Type 0 where
   -- the chunks of a bucket, and their blocks
   pub chunks : List Item
   pub blocks : List (List ℕ)
+
+-- what is handed to the exchange of a bucket
+abbrev pub handed_by : Buffered → ℕ → Handed
+handed_by b j = (take (size b.plan j) b.targets, take (size b.plan j) b.items)
+
+-- the block of its chunk for a target
+abbrev pub block_for : Buffered → ℕ → List ℕ
+block_for b i = slice_index_or b.blocks i []
 
 -- the items of a bucket are those of its envelopes
 abbrev pub AreOpened : Keys → Buffered → ℕ → Type 0
