@@ -3,6 +3,7 @@ mod Counting
 mod Dealing
 mod Exchanging
 mod Fitting
+mod Holding
 mod Opening
 mod Sealing
 mod Spreading

@@ -1,5 +1,5 @@
 -- What contracts see of a worker, and what its private work makes of what it holds.
-use Rattle.std.specs.Prelude.{◌≡◌, ℕ, ◌+◌, ◌-◌, ◌*◌, ◌<◌, List, [], All, length, map, take, slice_index_or, Option, Some, None}
+use Rattle.std.specs.Prelude.{◌≡◌, ℕ, ◌+◌, ◌-◌, ◌*◌, ◌%◌, ◌<◌, List, [], All, length, map, take, slice_index_or, Option, Some, None}
 use Rattle.esa_envelope.specs.declared.keys.Keys.{Keys}
 use Rattle.esa_params.specs.Form.{envelope_length}
 use Rattle.esa_params.specs.Sizes.{Sizes, below, size}
@@ -77,6 +77,10 @@ IsReady Blocks = Unit {0}
 abbrev pub IsBegun : Sizes → Option ℕ → Type 0
 IsBegun p None = ⊥
 IsBegun p (Some a) = a < p.attempts
+
+-- a worker that has passed a turn
+abbrev pub passed : {C : Type 0} → Working C → Working C
+passed w = record w { phase = (w.phase + 1) % (w.buffers.plan.b + 3) }
 
 -- the attempt that was begun, or 0
 abbrev pub attempt_in : Option ℕ → ℕ

@@ -1,6 +1,6 @@
 //! The buffers of a worker.
 
-ghost use Rattle.std.specs.Prelude.{◌≡◌, ◌≢◌, ℕ, ◌<◌, ◌≤◌, ◌^◌, ◌↔◌, All, Some, IfOk, IsOk, OnOk, OnErr, map, replicate, take};
+ghost use Rattle.std.specs.Prelude.{◌≡◌, ◌≢◌, ℕ, ◌*◌, ◌<◌, ◌≤◌, ◌^◌, ◌↔◌, All, Some, IfOk, IsOk, OnOk, OnErr, length, map, replicate, take};
 ghost use Rattle.esa_params.specs.Form.{envelope_length};
 ghost use Rattle.esa_params.specs.Sizes.{below, size};
 ghost use Rattle.esa_params.specs.Slots.{at, block_length, item_length, nonce_of, plain_length};
@@ -73,6 +73,13 @@ impl Buffers {
             chunk: vec![in alloc; 0; item * c]?,
             blocks: rooms(alloc, b, item * c + 40)?,
         })
+    }
+
+    /// The plan.
+    pub(crate) fn plan(&self) -> Plan
+        ensures { result ≡ self.now.plan }
+    {
+        self.plan
     }
 
     /// Opens the envelopes of a bucket, and draws their targets in an attempt.
@@ -156,6 +163,7 @@ impl Buffers {
         ensures of { AreOf exchanger.old.plan exchanger.old.stash exchanger.old.counts }
         ensures kept { self.new ≡ record self.old { chunks = self.new.chunks } }
         ensures chunks_unchanged { OnErr result (self.new ≡ self.old) }
+        ensures text { length self.old.text ≡ size self.old.plan 0 * envelope_length self.old.plan.form }
     {
         let size = self.plan.size(bucket) as usize;
         exchange_first(
