@@ -4,6 +4,7 @@ mod Dealing
 mod Exchanging
 mod Fitting
 mod Holding
+mod Making
 mod Opening
 mod Sealing
 mod Spreading

@@ -1,11 +1,11 @@
 -- What a turn's act makes of the parts of a floor, and what it answers.
-use Rattle.std.specs.Prelude.{◌≡◌, ◌≢◌, ℕ, ◌<◌, ◌≤◌, Bool, true, false, Option, Some, None}
+use Rattle.std.specs.Prelude.{◌≡◌, ◌≢◌, ℕ, ◌+◌, ◌<◌, ◌≤◌, Bool, true, false, Option, Some, None}
 use Rattle.esa_outside.specs.Cause.{Rose}
 use Rattle.esa_spec.specs.declared.event.Event.{Event}
 use Rattle.esa_spec.specs.declared.event.Event.TheVariants as event
 use Rattle.esa_stash.specs.Stash.{Handed, count, exchanged, total}
 use Rattle.esa_floor.specs.Exchanges.{Exchanges}
-use Rattle.esa_floor.specs.Parts.{count_at}
+use Rattle.esa_floor.specs.Parts.{Counted, count_at}
 use Rattle.esa_floor.specs.declared.turn.Stop.{Stop}
 use Rattle.esa_floor.specs.declared.turn.Stop.TheVariants as stop
 use Rattle.esa_floor.specs.declared.turn.Turn.{Turn}
@@ -49,3 +49,8 @@ StopsExchanging old new j handed (Some (stop.StashOverflow k)) =
     (k ≡ j) × (old.plan.s < total (exchanged old.stash handed)) × (new ≡ old)
 StopsExchanging old new j handed (Some (stop.DeviceFault number)) = ⊥
 StopsExchanging old new j handed (Some (stop.Tampered number)) = ⊥
+
+-- what is counted after a write
+abbrev pub counted_after : Counted → Option Stop → Counted
+counted_after c None = record c { writes = c.writes + 1 }
+counted_after c (Some s) = c

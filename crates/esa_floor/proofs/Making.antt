@@ -1,0 +1,146 @@
+-- A floor at work still stands once an act of a worker is made, whatever the act was.
+use Rattle.std.proofs.Common.{◌≡◌, ◌≢◌, ℕ, ◌+◌, ◌<◌, ◌≤◌, min, true, false, cond, Bool, List, [], ◌∷◌, ◌++◌, length, All, Option, Some, None, refl, sym, ap, ◌∙◌, subst, arith, append-nil, zero-add, inl, inr}
+use Rattle.std.specs.Prelude.{◌==◌, nat_lt}
+use Rattle.std.specs.Option.{option_to_list}
+use Rattle.std.proofs.lemmas.Bool.{cases_lt}
+use Rattle.std.proofs.lemmas.Bool.Decides.{nat_tests}
+use Rattle.esa_device.specs.Logs.{slot_number}
+use Rattle.esa_device.specs.Recording.{Recorded}
+use Rattle.esa_laws.proofs.TurnLaws.{claims-push, writes-push}
+use Rattle.esa_outside.specs.Cause.{Rose}
+use Rattle.esa_params.specs.Sizes.{size}
+use Rattle.esa_params.specs.Slots.{access_of, at, item_length, number_of}
+use Rattle.esa_params.specs.declared.slot.Op.TheVariants.{Read as Reads, Write as Writes}
+use Rattle.esa_params.specs.declared.slot.Region.TheVariants.{Input}
+use Rattle.esa_report.specs.declared.item.Item.{Item}
+use Rattle.esa_spec.specs.Draws.{Draw}
+use Rattle.esa_spec.specs.Traces.{asked, chunk_slot}
+use Rattle.esa_spec.specs.Turns.{claims, exchanged, held, is_write, next, next_phase, writes}
+use Rattle.esa_spec.specs.declared.event.Event.{Event}
+use Rattle.esa_spec.specs.declared.event.Event.TheVariants.{Claim, Read, Exchange, Write, Done, Idle}
+use Rattle.esa_stash.specs.Stash.{total}
+use Rattle.esa_stash.specs.Stash as stash
+use Rattle.esa_vault.specs.Placed.{IsHeld, IsSpelled}
+use Rattle.esa_vault.specs.Seals.{opens}
+use Rattle.esa_floor.specs.Acts.{StopsExchanging, StopsReading, StopsWriting, counted_after}
+use Rattle.esa_floor.specs.Exchanges.{AreOf, Exchanges}
+use Rattle.esa_floor.specs.Parts.{Counted, Parts}
+use Rattle.esa_floor.specs.Standing.{IsAtWork, turns_made}
+use Rattle.esa_floor.specs.declared.turn.Stop.{Stop}
+use Rattle.esa_floor.specs.declared.turn.Stop.TheVariants as stop
+use Rattle.esa_floor.proofs.Acting.{next_claims, next_is_done, next_is_idle}
+use Rattle.esa_floor.proofs.Spreading.{overflow_is, spread-exchange, spread-other}
+use Rattle.esa_floor.proofs.Turning.{all_made, spread_is, stands_fault, stands_good, stands_overflow, stands_tampered, turned}
+
+module _ {V : Type 0} (faults : V → ℕ) (ds : ℕ → Draw) (f : Parts V) (a w : ℕ) (at_work : IsAtWork faults ds f a) (worker : w ≢ f.plan.workers) (runs : f.stop ≡ None) where
+  abbrev h : List ℕ
+  h = turns_made f
+
+  -- what is counted goes on with the turn
+  claims_first : next_phase f.plan.b h w ≡ 0 → min (f.counted.claims + 1) f.plan.b ≡ min (claims f.plan.b (h ++ w ∷ [])) f.plan.b
+  claims_first first =
+      let one = claims-push f.plan.b h w ∙ ap (λ (x : ℕ). claims f.plan.b h + cond (x == 0) 1 0) first in
+      let before = (spread_is faults ds f a w at_work worker runs).claims in
+      omega (arith, one, before)
+
+  claims_later : next_phase f.plan.b h w ≢ 0 → f.counted.claims ≡ min (claims f.plan.b (h ++ w ∷ [])) f.plan.b
+  claims_later more =
+      let not : (next_phase f.plan.b h w == 0) ≡ false = grind (arith, nat_tests) in
+      let same = claims-push f.plan.b h w ∙ ap (λ (t : Bool). claims f.plan.b h + cond t 1 0) not in
+      let before = (spread_is faults ds f a w at_work worker runs).claims in
+      omega (arith, same, before)
+
+  writes_same : (e : Event) → next f.plan.b h w ≡ e → is_write e ≡ false → f.counted.writes ≡ writes f.plan.b (h ++ w ∷ [])
+  writes_same e is none =
+      let same = writes-push f.plan.b h w ∙ ap (λ (e : Event). writes f.plan.b h + cond (is_write e) 1 0) is ∙ ap (λ (t : Bool). writes f.plan.b h + cond t 1 0) none in
+      let before = (spread_is faults ds f a w at_work worker runs).writes in
+      omega (arith, same, before)
+
+  writes_more : (j i : ℕ) → next f.plan.b h w ≡ Write j i → f.counted.writes + 1 ≡ writes f.plan.b (h ++ w ∷ [])
+  writes_more j i is =
+      let one = writes-push f.plan.b h w ∙ ap (λ (e : Event). writes f.plan.b h + cond (is_write e) 1 0) is in
+      let before = (spread_is faults ds f a w at_work worker runs).writes in
+      omega (arith, one, before)
+
+  -- a turn that exchanges nothing and doesn't fail
+  other : (e : Event) → next f.plan.b h w ≡ e → exchanged e ≡ None → (r : Recorded V) (counted : Counted)
+      → r.trace ≡ f.recorder.trace ++ option_to_list (asked f.plan a e) → faults r.device ≡ faults f.recorder.device
+      → counted.claims ≡ min (claims f.plan.b (h ++ w ∷ [])) f.plan.b → counted.writes ≡ writes f.plan.b (h ++ w ∷ [])
+      → IsAtWork faults ds (turned f w r f.stash f.counts counted None) a
+  other e is none r counted more calm claimed wrote =
+      stands_good faults ds f a w at_work worker runs r f.stash f.counts counted
+      (more ∙ ap (λ (e : Event). f.recorder.trace ++ option_to_list (asked f.plan a e)) (sym is)) calm
+      (spread-other f.plan (ds a) h w f.stash f.counts f.counted counted (ap exchanged is ∙ none) (spread_is faults ds f a w at_work worker runs) claimed wrote)
+
+  pub claim_stands : next_phase f.plan.b h w ≡ 0
+      → IsAtWork faults ds (turned f w f.recorder f.stash f.counts (record f.counted { claims = min (f.counted.claims + 1) f.plan.b }) None) a
+  claim_stands first = elim (cases_lt (claims f.plan.b h) f.plan.b) [
+    | inl some ↦
+        let is = next_claims f.plan.b h w first some in
+        other (Claim (claims f.plan.b h)) is refl f.recorder (record f.counted { claims = min (f.counted.claims + 1) f.plan.b })
+        (sym (append-nil f.recorder.trace)) refl (claims_first first) (writes_same (Claim (claims f.plan.b h)) is refl)
+    | inr none ↦
+        let is = next_is_done f.plan.b h w first none in
+        other Done is refl f.recorder (record f.counted { claims = min (f.counted.claims + 1) f.plan.b })
+        (sym (append-nil f.recorder.trace)) refl (claims_first first) (writes_same Done is refl)
+  ]
+
+  pub idle_stands : next_phase f.plan.b h w ≢ 0 → f.plan.b ≤ held f.plan.b h w
+      → IsAtWork faults ds (turned f w f.recorder f.stash f.counts f.counted None) a
+  idle_stands more none =
+      let is = next_is_idle f.plan.b h w more none in
+      other Idle is refl f.recorder f.counted (sym (append-nil f.recorder.trace)) refl (claims_later more) (writes_same Idle is refl)
+
+  rose : (r : Recorded V) → Rose (faults f.recorder.device) (faults r.device) → Rose f.faults (faults r.device)
+  rose r = subst (λ (n : ℕ). Rose n (faults r.device)) (all_made faults ds f a w at_work worker runs).1
+
+  pub read_stands : (j : ℕ) → next f.plan.b h w ≡ Read j → next_phase f.plan.b h w ≢ 0 → (r : Recorded V)
+      → r.trace ≡ f.recorder.trace ++ access_of f.plan a Reads (at Input j) ∷ [] → (s : Option Stop)
+      → StopsReading (number_of f.plan (at Input j)) (opens f.plan f.run (at Input j) a 0 r.last) (faults f.recorder.device) (faults r.device) s
+      → IsAtWork faults ds (turned f w r f.stash f.counts f.counted s) a
+  read_stands j is later r more None went =
+      other (Read j) is refl r f.counted more went.1 (claims_later later) (writes_same (Read j) is refl)
+  read_stands j is later r more (Some (stop.DeviceFault n)) went =
+      subst (λ (n : ℕ). IsAtWork faults ds (turned f w r f.stash f.counts f.counted (Some (stop.DeviceFault n))) a) (sym went.0)
+      (stands_fault faults ds f a w at_work worker runs r (access_of f.plan a Reads (at Input j)) (ap (asked f.plan a) is) more (rose r went.1))
+  read_stands j is later r more (Some (stop.Tampered n)) went =
+      subst (λ (n : ℕ). IsAtWork faults ds (turned f w r f.stash f.counts f.counted (Some (stop.Tampered n))) a) (sym (went.0 ∙ zero-add j))
+      (stands_tampered faults ds f a w at_work worker runs r j is more went.2 went.1)
+  read_stands j is later r more (Some (stop.StashOverflow k)) never = absurd never
+
+  pub write_stands : (j i : ℕ) → next f.plan.b h w ≡ Write j i → next_phase f.plan.b h w ≢ 0 → (r : Recorded V)
+      → r.trace ≡ f.recorder.trace ++ access_of f.plan a Writes (chunk_slot f.plan j i) ∷ [] → (s : Option Stop)
+      → StopsWriting (number_of f.plan (chunk_slot f.plan j i)) (faults f.recorder.device) (faults r.device) s
+      → IsAtWork faults ds (turned f w r f.stash f.counts (counted_after f.counted s) s) a
+  write_stands j i is later r more None went =
+      other (Write j i) is refl r (record f.counted { writes = f.counted.writes + 1 }) more went (claims_later later) (writes_more j i is)
+  write_stands j i is later r more (Some (stop.DeviceFault n)) went =
+      subst (λ (n : ℕ). IsAtWork faults ds (turned f w r f.stash f.counts f.counted (Some (stop.DeviceFault n))) a) (sym went.0)
+      (stands_fault faults ds f a w at_work worker runs r (access_of f.plan a Writes (chunk_slot f.plan j i)) (ap (asked f.plan a) is) more (rose r went.1))
+  write_stands j i is later r more (Some (stop.Tampered n)) never = absurd never
+  write_stands j i is later r more (Some (stop.StashOverflow k)) never = absurd never
+
+  module _ (j : ℕ) (is : next f.plan.b h w ≡ Exchange j) (later : next_phase f.plan.b h w ≢ 0) (targets : List ℕ) (items : List Item)
+      (of : AreOf f.plan f.stash f.counts) (drawn : length ((ds a).targets j) ≡ size f.plan j) (same : targets ≡ (ds a).targets j) (each : length items ≡ length targets)
+      (filled : All IsHeld items) (spelled : All (IsSpelled (item_length f.plan.form)) items)
+    where
+      abbrev was : Exchanges
+      was = record { plan = f.plan; stash = f.stash; counts = f.counts }
+
+      pub exchange_stands : (new : Exchanges) (s : Option Stop) → StopsExchanging was new j (targets, items) s
+          → IsAtWork faults ds (turned f w f.recorder new.stash new.counts f.counted s) a
+      exchange_stands new None went =
+          let made = went.1 in
+          stands_good faults ds f a w at_work worker runs f.recorder new.stash new.counts f.counted
+          (sym (append-nil f.recorder.trace) ∙ ap (λ (e : Event). f.recorder.trace ++ option_to_list (asked f.plan a e)) (sym is)) refl
+          (spread-exchange f.plan (ds a) h w j f.stash new.stash targets items f.counts new.counts f.counted (ap exchanged is) (spread_is faults ds f a w at_work worker runs)
+          of drawn same each went.0
+          made.stash made.counts made.others filled spelled (claims_later later) (writes_same (Exchange j) is refl))
+      exchange_stands new (Some (stop.StashOverflow k)) went =
+          let over : nat_lt f.plan.s (total (stash.exchanged f.stash (targets, items))) ≡ true = let above = went.1 in grind (arith, nat_tests) in
+          let at_j = stands_overflow faults ds f a w at_work worker runs f.recorder j is
+              (overflow_is f.plan (ds a) h w j f.stash new.stash targets items f.counts new.counts f.counted (ap exchanged is) (spread_is faults ds f a w at_work worker runs) of drawn same each ∙ over) refl refl in
+          subst (λ (e : Exchanges). IsAtWork faults ds (turned f w f.recorder e.stash e.counts f.counted (Some (stop.StashOverflow k))) a) (sym went.2)
+          (subst (λ (k : ℕ). IsAtWork faults ds (turned f w f.recorder f.stash f.counts f.counted (Some (stop.StashOverflow k))) a) (sym went.0) at_j)
+      exchange_stands new (Some (stop.DeviceFault n)) never = absurd never
+      exchange_stands new (Some (stop.Tampered n)) never = absurd never
