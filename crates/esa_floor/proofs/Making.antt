@@ -8,7 +8,8 @@ use Rattle.esa_device.specs.Logs.{slot_number}
 use Rattle.esa_device.specs.Recording.{Recorded}
 use Rattle.esa_laws.proofs.TurnLaws.{claims-push, writes-push}
 use Rattle.esa_outside.specs.Cause.{Rose}
-use Rattle.esa_params.specs.Sizes.{size}
+use Rattle.esa_envelope.specs.declared.keys.Keys.{Keys}
+use Rattle.esa_params.specs.Sizes.{Sizes, size}
 use Rattle.esa_params.specs.Slots.{access_of, at, item_length, number_of}
 use Rattle.esa_params.specs.declared.slot.Op.TheVariants.{Read as Reads, Write as Writes}
 use Rattle.esa_params.specs.declared.slot.Region.TheVariants.{Input}
@@ -22,11 +23,13 @@ use Rattle.esa_stash.specs.Stash.{total}
 use Rattle.esa_stash.specs.Stash as stash
 use Rattle.esa_vault.specs.Placed.{IsHeld, IsSpelled}
 use Rattle.esa_vault.specs.Seals.{opens}
-use Rattle.esa_floor.specs.Acts.{StopsExchanging, StopsReading, StopsWriting, counted_after}
+use Rattle.esa_floor.specs.Acts.{StopsExchanging, StopsReading, StopsWriting, answer_of, answered, counted_after}
 use Rattle.esa_floor.specs.Exchanges.{AreOf, Exchanges}
-use Rattle.esa_floor.specs.Parts.{Counted, Parts}
+use Rattle.esa_floor.specs.Parts.{Counted, Parts, with_entry}
 use Rattle.esa_floor.specs.Standing.{IsAtWork, turns_made}
+use Rattle.esa_floor.specs.Working.{attempt_in}
 use Rattle.esa_floor.specs.declared.turn.Stop.{Stop}
+use Rattle.esa_floor.specs.declared.turn.Turn.{Turn}
 use Rattle.esa_floor.specs.declared.turn.Stop.TheVariants as stop
 use Rattle.esa_floor.proofs.Acting.{next_claims, next_is_done, next_is_idle}
 use Rattle.esa_floor.proofs.Spreading.{overflow_is, spread-exchange, spread-other}
@@ -144,3 +147,73 @@ module _ {V : Type 0} (faults : V → ℕ) (ds : ℕ → Draw) (f : Parts V) (a 
           (subst (λ (k : ℕ). IsAtWork faults ds (turned f w f.recorder f.stash f.counts f.counted (Some (stop.StashOverflow k))) a) (sym went.0) at_j)
       exchange_stands new (Some (stop.DeviceFault n)) never = absurd never
       exchange_stands new (Some (stop.Tampered n)) never = absurd never
+
+  -- the same of the floor that an act made, which has not got its entry
+  pub claim_made : (new : Parts V) → new ≡ record f { counted = record f.counted { claims = min (f.counted.claims + 1) f.plan.b } }
+      → next_phase f.plan.b h w ≡ 0 → IsAtWork faults ds (with_entry new w) a
+  claim_made new is first =
+      subst (λ (x : Parts V). IsAtWork faults ds (with_entry x w) a) (sym is)
+      (subst (λ (s : Option Stop). IsAtWork faults ds (turned f w f.recorder f.stash f.counts (record f.counted { claims = min (f.counted.claims + 1) f.plan.b }) s) a) (sym runs) (claim_stands first))
+
+  pub idle_made : next_phase f.plan.b h w ≢ 0 → f.plan.b ≤ held f.plan.b h w → IsAtWork faults ds (with_entry f w) a
+  idle_made more none = subst (λ (s : Option Stop). IsAtWork faults ds (turned f w f.recorder f.stash f.counts f.counted s) a) (sym runs) (idle_stands more none)
+
+  pub read_made : (new : Parts V) → new ≡ record f { recorder = new.recorder; stop = new.stop } → (j : ℕ) → next f.plan.b h w ≡ Read j → next_phase f.plan.b h w ≢ 0
+      → new.recorder.trace ≡ f.recorder.trace ++ access_of f.plan a Reads (at Input j) ∷ []
+      → StopsReading (number_of f.plan (at Input j)) (opens f.plan f.run (at Input j) a 0 new.recorder.last) (faults f.recorder.device) (faults new.recorder.device) new.stop
+      → IsAtWork faults ds (with_entry new w) a
+  read_made new same j is later more went =
+      subst (λ (x : Parts V). IsAtWork faults ds (with_entry x w) a) (sym same) (read_stands j is later new.recorder more new.stop went)
+
+  pub write_made : (new : Parts V) → new ≡ record f { recorder = new.recorder; counted = counted_after f.counted new.stop; stop = new.stop } → (j i : ℕ) → next f.plan.b h w ≡ Write j i → next_phase f.plan.b h w ≢ 0
+      → new.recorder.trace ≡ f.recorder.trace ++ access_of f.plan a Writes (chunk_slot f.plan j i) ∷ []
+      → StopsWriting (number_of f.plan (chunk_slot f.plan j i)) (faults f.recorder.device) (faults new.recorder.device) new.stop
+      → IsAtWork faults ds (with_entry new w) a
+  write_made new same j i is later more went =
+      subst (λ (x : Parts V). IsAtWork faults ds (with_entry x w) a) (sym same) (write_stands j i is later new.recorder more new.stop went)
+
+  -- how many rounds were begun, where a bucket is left, and where none is
+  pub next_is_claim : next_phase f.plan.b h w ≡ 0 → f.counted.claims < f.plan.b → next f.plan.b h w ≡ Claim f.counted.claims
+  next_is_claim first some =
+      let before = (spread_is faults ds f a w at_work worker runs).claims in
+      let same : claims f.plan.b h ≡ f.counted.claims = omega (arith, before, some) in
+      next_claims f.plan.b h w first (omega (arith, before, some)) ∙ ap (λ (j : ℕ). Claim j) same
+
+  pub next_is_none : next_phase f.plan.b h w ≡ 0 → f.plan.b ≤ f.counted.claims → next f.plan.b h w ≡ Done
+  next_is_none first none =
+      let before = (spread_is faults ds f a w at_work worker runs).claims in
+      next_is_done f.plan.b h w first (omega (arith, before, none))
+
+  pub claims_few : f.counted.claims ≤ f.plan.b
+  claims_few = let before = (spread_is faults ds f a w at_work worker runs).claims in omega (arith, before)
+
+  -- the same in the words of the worker and of the floor as it was lent
+  pub claim_some : (new : Parts V) → new ≡ record f { counted = record f.counted { claims = f.counted.claims + 1 } } → f.counted.claims < f.plan.b
+      → next_phase f.plan.b h w ≡ 0 → IsAtWork faults ds (with_entry new w) a
+  claim_some new is some first =
+      claim_made new (is ∙ ap (λ (n : ℕ). record f { counted = record f.counted { claims = n } }) (omega arith)) first
+
+  pub claim_none : f.plan.b ≤ f.counted.claims → next_phase f.plan.b h w ≡ 0 → IsAtWork faults ds (with_entry f w) a
+  claim_none none first =
+      let few = claims_few in
+      claim_made f (ap (λ (n : ℕ). record f { counted = record f.counted { claims = n } }) (omega (arith, few, none))) first
+
+  pub read_here : (new : Parts V) → new ≡ record f { recorder = new.recorder; stop = new.stop } → (j : ℕ) → next f.plan.b h w ≡ Read j → next_phase f.plan.b h w ≢ 0
+      → (p : Sizes) (o : Option ℕ) (run : Keys) (r : Recorded V) → p ≡ f.plan → o ≡ Some a → run ≡ f.run → r ≡ f.recorder
+      → new.recorder.trace ≡ r.trace ++ access_of p (attempt_in o) Reads (at Input j) ∷ []
+      → StopsReading (number_of p (at Input j)) (opens p run (at Input j) (attempt_in o) 0 new.recorder.last) (faults r.device) (faults new.recorder.device) new.stop
+      → IsAtWork faults ds (with_entry new w) a
+  read_here new same j is later p o run r plan attempt keys recorder more went =
+      read_made new same j is later
+      (more ∙ ap (λ (r : Recorded V). r.trace ++ access_of p (attempt_in o) Reads (at Input j) ∷ []) recorder
+      ∙ ap (λ (o : Option ℕ). f.recorder.trace ++ access_of p (attempt_in o) Reads (at Input j) ∷ []) attempt
+      ∙ ap (λ (p : Sizes). f.recorder.trace ++ access_of p a Reads (at Input j) ∷ []) plan)
+      (subst (λ (r : Recorded V). StopsReading (number_of f.plan (at Input j)) (opens f.plan f.run (at Input j) a 0 new.recorder.last) (faults r.device) (faults new.recorder.device) new.stop) recorder
+      (subst (λ (run : Keys). StopsReading (number_of f.plan (at Input j)) (opens f.plan run (at Input j) a 0 new.recorder.last) (faults r.device) (faults new.recorder.device) new.stop) keys
+      (subst (λ (o : Option ℕ). StopsReading (number_of f.plan (at Input j)) (opens f.plan run (at Input j) (attempt_in o) 0 new.recorder.last) (faults r.device) (faults new.recorder.device) new.stop) attempt
+      (subst (λ (p : Sizes). StopsReading (number_of p (at Input j)) (opens p run (at Input j) (attempt_in o) 0 new.recorder.last) (faults r.device) (faults new.recorder.device) new.stop) plan went))))
+
+-- the answer, by the event
+pub answered_is : (e : Event) (t : Turn) (s : Option Stop) → answer_of e None ≡ t → answered t s ≡ answer_of e s
+answered_is e t None is = sym is
+answered_is e t (Some s) is = refl

@@ -21,6 +21,11 @@ answer_of (event.Write j i) None = turn.Wrote j i
 answer_of event.Done None = turn.Done
 answer_of event.Idle None = turn.Idle
 
+-- the answer of a turn that would answer this, by the stop that there is after it
+abbrev pub answered : Turn → Option Stop → Turn
+answered t None = t
+answered t (Some s) = turn.Stopped s
+
 -- the stop after a read of the slot of this number, by whether the bytes that were given open and by the counts of faults
 abbrev pub StopsReading : ℕ → Bool → ℕ → ℕ → Option Stop → Type 0
 StopsReading number opened before now None = (opened ≡ true) × (now ≡ before)

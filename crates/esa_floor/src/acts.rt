@@ -5,12 +5,12 @@ ghost use Rattle.esa_params.specs.Slots.{access_of, at, item_length, number_of};
 ghost use Rattle.esa_spec.specs.Traces.{chunk_slot};
 ghost use Rattle.esa_vault.specs.Placed.{IsSpelled};
 ghost use Rattle.esa_vault.specs.Seals.{opens};
-ghost use Rattle.esa_floor.specs.Acts.{StopsExchanging, StopsReading, StopsWriting};
+ghost use Rattle.esa_floor.specs.Acts.{StopsExchanging, StopsReading, StopsWriting, answered};
 ghost use Rattle.esa_floor.specs.Exchanges.{AreOf};
 ghost use Rattle.esa_floor.specs.Working.{AreDrawn, AreOpened, IsBegun, attempt_in, handed_by, passed};
 
 use crate::exchanger::Exchanger;
-use crate::turn::Stop;
+use crate::turn::{Stop, Turn};
 use crate::worker::{Stage, Worker};
 use esa_device::{Device, Recorder};
 use esa_params::{Op, Region};
@@ -81,5 +81,15 @@ pub(crate) fn write<V: Device, C: Coins>(
         Ok(()) => None,
         Err(VaultFault::Device(number)) => Some(Stop::DeviceFault(number)),
         Err(VaultFault::Tampered(number)) => Some(Stop::Tampered(number)),
+    }
+}
+
+/// The answer of a turn, by the stop that there is after it.
+pub(crate) fn answer(turn: Turn, stop: Option<Stop>) -> Turn
+    ensures { result ≡ answered turn stop }
+{
+    match stop {
+        None => turn,
+        Some(stop) => Turn::Stopped(stop),
     }
 }

@@ -1,15 +1,19 @@
 //! A floor: what the turns of a run work on.
 
-ghost use Rattle.std.specs.Prelude.{◌≡◌, ℕ, ◌+◌, ◌*◌, ◌<◌, ◌≤◌, ◌↔◌, [], Some, None, IsTrue, IfOk, IfErr, IsOk, OnOk, OnErr, length};
+ghost use Rattle.std.specs.Prelude.{◌≡◌, ◌≢◌, ℕ, ◌+◌, ◌*◌, ◌<◌, ◌≤◌, ◌↔◌, [], min, Some, None, IsTrue, IfOk, IfErr, IsOk, OnOk, OnErr, length};
 ghost use Rattle.esa_params.specs.Slots.{greatest_trace};
 ghost use Rattle.esa_spec.specs.Draws.{drawn};
+ghost use Rattle.esa_spec.specs.Turns.{held, next, next_phase};
 ghost use Rattle.esa_stash.specs.Stash.{empty_stash, padded, queue_at, without};
-ghost use Rattle.esa_floor.specs.Parts.{begun_as, count_at, ended_as, no_counts, nothing_counted};
-ghost use Rattle.esa_floor.specs.Standing.{Stands};
+ghost use Rattle.esa_floor.specs.Acts.{answer_of};
+ghost use Rattle.esa_floor.specs.Parts.{begun_as, count_at, ended_as, no_counts, nothing_counted, with_entry};
+ghost use Rattle.esa_floor.specs.Standing.{IsAtWork, Stands, attempt_begun, turns_made};
 
+use crate::acts;
 use crate::exchanger::Exchanger;
 use crate::told::Told;
-use crate::turn::{Outcome, Stop};
+use crate::turn::{Outcome, Stop, Turn};
+use crate::worker::{Stage, Worker};
 use esa_device::{Device, Recorder};
 use esa_envelope::Keys;
 use esa_params::Plan;
@@ -297,5 +301,55 @@ impl<V: Device, G: Told> Floor<V, G> {
         ensures value { result.now ≡ self.old.recorder }
     {
         &mut self.recorder
+    }
+}
+
+/// The acts of a turn, of an attempt whose turns have not stopped. Each leaves a floor that stands once the worker's
+/// number is added.
+impl<V: Device, G: Told> Floor<V, G> {
+    /// Begins a round of a worker: it takes the next bucket, if one is left.
+    fn claim<C: Coins>(&mut self, worker: &mut Worker<'_, C>) -> Turn
+        requires at_work { IsAtWork V.faults G.draws self.old (attempt_begun self.old) }
+        requires runs { self.old.stop ≡ None }
+        requires number { worker.old.number ≢ self.old.plan.workers }
+        requires phase { next_phase self.old.plan.b (turns_made self.old) worker.old.number ≡ 0 }
+        ensures stands { IsAtWork V.faults G.draws (with_entry self.new worker.old.number) (attempt_begun self.old) }
+        ensures answer { result ≡ answer_of (next self.old.plan.b (turns_made self.old) worker.old.number) None }
+        ensures floor { self.new ≡ record self.old { counted = record self.old.counted { claims = min (self.old.counted.claims + 1) self.old.plan.b } } }
+        ensures worker { worker.new ≡ record worker.old { phase = 1; bucket = self.old.counted.claims; stage = Stage.Empty } }
+    {
+        let bucket = self.claims;
+        worker.claim(bucket);
+        if bucket >= self.exchanger.plan().b() {
+            return Turn::Done;
+        }
+        self.claims = bucket + 1;
+        Turn::Claimed(bucket)
+    }
+
+    /// Reads the block of a worker's bucket.
+    fn read<C: Coins>(&mut self, worker: &mut Worker<'_, C>) -> Turn
+        requires at_work { IsAtWork V.faults G.draws self.old (attempt_begun self.old) }
+        requires runs { self.old.stop ≡ None }
+        requires number { worker.old.number ≢ self.old.plan.workers }
+        requires phase { next_phase self.old.plan.b (turns_made self.old) worker.old.number ≡ 1 }
+        requires held { held self.old.plan.b (turns_made self.old) worker.old.number ≡ worker.old.bucket }
+        requires bucket { worker.old.bucket < self.old.plan.b }
+        requires plan { worker.old.buffers.plan ≡ self.old.plan }
+        requires run { worker.old.run ≡ self.old.run }
+        requires attempt { worker.old.attempt ≡ Some (attempt_begun self.old) }
+        requires ready { self.old.recorder.plan ≡ Some self.old.plan }
+        requires room { 0 < self.old.recorder.room }
+        ensures stands { IsAtWork V.faults G.draws (with_entry self.new worker.old.number) (attempt_begun self.old) }
+        ensures answer { result ≡ answer_of (next self.old.plan.b (turns_made self.old) worker.old.number) self.new.stop }
+        ensures floor { self.new ≡ record self.old { recorder = self.new.recorder; stop = self.new.stop } }
+        ensures room { self.old.recorder.room ≡ self.new.recorder.room + 1 }
+        ensures ready { self.new.recorder.plan ≡ self.old.recorder.plan }
+        ensures trace { length self.new.recorder.trace ≡ length self.old.recorder.trace + 1 }
+        ensures worker { self.new.stop ≡ None → worker.new ≡ record worker.old { phase = 2; stage = Stage.Envelopes; buffers = record worker.old.buffers { text = worker.new.buffers.text; sealed = worker.new.buffers.sealed } } }
+    {
+        let bucket = worker.bucket();
+        self.stop = acts::read(&mut self.recorder, worker);
+        acts::answer(Turn::Read(bucket), self.stop)
     }
 }
