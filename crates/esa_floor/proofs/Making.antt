@@ -1,15 +1,21 @@
 -- A floor at work still stands once an act of a worker is made, whatever the act was.
-use Rattle.std.proofs.Common.{◌≡◌, ◌≢◌, ℕ, ◌+◌, ◌<◌, ◌≤◌, min, true, false, cond, Bool, List, [], ◌∷◌, ◌++◌, length, All, Option, Some, None, refl, sym, ap, ◌∙◌, subst, arith, append-nil, zero-add, inl, inr}
+use Rattle.std.proofs.Common.{◌≡◌, ◌≢◌, ℕ, ◌+◌, ◌*◌, ◌<◌, ◌≤◌, min, true, false, cond, Bool, List, [], ◌∷◌, ◌++◌, length, take, All, Option, Some, None, refl, sym, ap, ◌∙◌, subst, arith, append-nil, zero-add, inl, inr}
 use Rattle.std.specs.Prelude.{◌==◌, nat_lt}
 use Rattle.std.specs.Option.{option_to_list}
 use Rattle.std.proofs.lemmas.Bool.{cases_lt}
 use Rattle.std.proofs.lemmas.Bool.Decides.{nat_tests}
 use Rattle.esa_device.specs.Logs.{slot_number}
 use Rattle.esa_device.specs.Recording.{Recorded}
+use Rattle.std.proofs.lemmas.List.{length-map}
+use Rattle.std.proofs.lemmas.List.FromFn.{length-range_with_len}
+use Rattle.esa_laws.proofs.RoundLaws.{writes_of, writes_of-le}
+use Rattle.esa_laws.proofs.Sums.{sum-below-le}
+use Rattle.esa_laws.proofs.TotalLaws.{total-writes}
 use Rattle.esa_laws.proofs.TurnLaws.{claims-push, writes-push}
+use Rattle.esa_params.specs.Form.{envelope_length}
 use Rattle.esa_outside.specs.Cause.{Rose}
 use Rattle.esa_envelope.specs.declared.keys.Keys.{Keys}
-use Rattle.esa_params.specs.Sizes.{Sizes, size}
+use Rattle.esa_params.specs.Sizes.{Sizes, below, size}
 use Rattle.esa_params.specs.Slots.{access_of, at, item_length, number_of}
 use Rattle.esa_params.specs.declared.slot.Op.TheVariants.{Read as Reads, Write as Writes}
 use Rattle.esa_params.specs.declared.slot.Region.TheVariants.{Input}
@@ -19,7 +25,7 @@ use Rattle.esa_spec.specs.Traces.{asked, chunk_slot}
 use Rattle.esa_spec.specs.Turns.{claims, exchanged, held, is_write, next, next_phase, writes}
 use Rattle.esa_spec.specs.declared.event.Event.{Event}
 use Rattle.esa_spec.specs.declared.event.Event.TheVariants.{Claim, Read, Exchange, Write, Done, Idle}
-use Rattle.esa_stash.specs.Stash.{total}
+use Rattle.esa_stash.specs.Stash.{Handed, total}
 use Rattle.esa_stash.specs.Stash as stash
 use Rattle.esa_vault.specs.Placed.{IsHeld, IsSpelled}
 use Rattle.esa_vault.specs.Seals.{opens}
@@ -27,11 +33,14 @@ use Rattle.esa_floor.specs.Acts.{StopsExchanging, StopsReading, StopsWriting, an
 use Rattle.esa_floor.specs.Exchanges.{AreOf, Exchanges}
 use Rattle.esa_floor.specs.Parts.{Counted, Parts, with_entry}
 use Rattle.esa_floor.specs.Standing.{IsAtWork, turns_made}
-use Rattle.esa_floor.specs.Working.{attempt_in}
+use Rattle.esa_floor.specs.Private.{item_opened}
+use Rattle.esa_floor.specs.Working.{AreDrawn, AreOpened, Buffered, attempt_in, handed_by}
 use Rattle.esa_floor.specs.declared.turn.Stop.{Stop}
 use Rattle.esa_floor.specs.declared.turn.Turn.{Turn}
 use Rattle.esa_floor.specs.declared.turn.Stop.TheVariants as stop
 use Rattle.esa_floor.proofs.Acting.{next_claims, next_is_done, next_is_idle}
+use Rattle.esa_floor.proofs.Fitting.{bytes_fit}
+use Rattle.esa_floor.proofs.Holding.{opened_are_held, opened_are_spelled}
 use Rattle.esa_floor.proofs.Spreading.{overflow_is, spread-exchange, spread-other}
 use Rattle.esa_floor.proofs.Turning.{all_made, spread_is, stands_fault, stands_good, stands_overflow, stands_tampered, turned}
 
@@ -213,7 +222,60 @@ module _ {V : Type 0} (faults : V → ℕ) (ds : ℕ → Draw) (f : Parts V) (a 
       (subst (λ (o : Option ℕ). StopsReading (number_of f.plan (at Input j)) (opens f.plan run (at Input j) (attempt_in o) 0 new.recorder.last) (faults r.device) (faults new.recorder.device) new.stop) attempt
       (subst (λ (p : Sizes). StopsReading (number_of p (at Input j)) (opens p run (at Input j) (attempt_in o) 0 new.recorder.last) (faults r.device) (faults new.recorder.device) new.stop) plan went))))
 
+  pub write_here : (new : Parts V) → new ≡ record f { recorder = new.recorder; counted = counted_after f.counted new.stop; stop = new.stop } → (j i : ℕ) → next f.plan.b h w ≡ Write j i → next_phase f.plan.b h w ≢ 0
+      → (p : Sizes) (o : Option ℕ) (r : Recorded V) → p ≡ f.plan → o ≡ Some a → r ≡ f.recorder
+      → new.recorder.trace ≡ r.trace ++ access_of p (attempt_in o) Writes (chunk_slot p j i) ∷ []
+      → StopsWriting (number_of p (chunk_slot p j i)) (faults r.device) (faults new.recorder.device) new.stop
+      → IsAtWork faults ds (with_entry new w) a
+  write_here new same j i is later p o r plan attempt recorder more went =
+      write_made new same j i is later
+      (more ∙ ap (λ (r : Recorded V). r.trace ++ access_of p (attempt_in o) Writes (chunk_slot p j i) ∷ []) recorder
+      ∙ ap (λ (o : Option ℕ). f.recorder.trace ++ access_of p (attempt_in o) Writes (chunk_slot p j i) ∷ []) attempt
+      ∙ ap (λ (p : Sizes). f.recorder.trace ++ access_of p a Writes (chunk_slot p j i) ∷ []) plan)
+      (subst (λ (r : Recorded V). StopsWriting (number_of f.plan (chunk_slot f.plan j i)) (faults r.device) (faults new.recorder.device) new.stop) recorder
+      (subst (λ (p : Sizes). StopsWriting (number_of p (chunk_slot p j i)) (faults r.device) (faults new.recorder.device) new.stop) plan went))
+
+  -- the count of writes has room for one more
+  pub writes_few : f.counted.writes ≤ f.plan.b * f.plan.b
+  writes_few =
+      let before = (spread_is faults ds f a w at_work worker runs).writes in
+      let all = total-writes f.plan.b h in
+      let few = sum-below-le (writes_of f.plan.b h) f.plan.b f.plan.b (writes_of-le f.plan.b h) in
+      omega (arith, before, all, few)
+
+  -- an exchange, in the words of the worker's buffers
+  pub exchange_here : (new : Parts V) (e old : Exchanges) (s : Option Stop) → new ≡ record f { stash = e.stash; counts = e.counts; stop = s }
+      → old ≡ record { plan = f.plan; stash = f.stash; counts = f.counts }
+      → (j : ℕ) → next f.plan.b h w ≡ Exchange j → next_phase f.plan.b h w ≢ 0
+      → (b : Buffered) (outer : Keys) (o : Option ℕ) (drawn : ℕ → ℕ → List ℕ) → b.plan ≡ f.plan → o ≡ Some a → drawn a j ≡ (ds a).targets j
+      → length ((ds a).targets j) ≡ size f.plan j
+      → AreDrawn (drawn (attempt_in o) j) b j → AreOpened outer b j → length b.text ≡ size b.plan 0 * envelope_length b.plan.form
+      → AreOf old.plan old.stash old.counts → StopsExchanging old e j (handed_by b j) s
+      → IsAtWork faults ds (with_entry new w) a
+  exchange_here new e old s same is_was j is later b outer o drawn plan attempt draws long targets opened text of went =
+      let of_f = subst (λ (x : Exchanges). AreOf x.plan x.stash x.counts) is_was of in
+      let went_f = subst (λ (x : Exchanges). StopsExchanging x e j (handed_by b j) s) is_was went in
+      let drawn_is : take (size b.plan j) b.targets ≡ (ds a).targets j = targets ∙ ap (λ (o : Option ℕ). drawn (attempt_in o) j) attempt ∙ draws in
+      let items_long : length (take (size b.plan j) b.items) ≡ size b.plan j =
+          ap length opened ∙ length-map (below (size b.plan j)) (item_opened outer (envelope_length b.plan.form) b.text) ∙ length-range_with_len 0 (size b.plan j) in
+      let each : length (take (size b.plan j) b.items) ≡ length (take (size b.plan j) b.targets) =
+          items_long ∙ ap (λ (p : Sizes). size p j) plan ∙ sym long ∙ sym (ap length drawn_is) in
+      let fits : size b.plan j * envelope_length b.plan.form ≤ length b.text =
+          subst (λ (n : ℕ). size b.plan j * envelope_length b.plan.form ≤ n) (sym text) (bytes_fit b.plan j (envelope_length b.plan.form)) in
+      let filled = subst (All IsHeld) (sym opened) (opened_are_held outer (envelope_length b.plan.form) b.text (size b.plan j)) in
+      let spelled = subst (All (IsSpelled (item_length b.plan.form))) (sym opened) (opened_are_spelled outer b.plan.form b.text (size b.plan j) fits) in
+      let spelled_f = subst (λ (p : Sizes). All (IsSpelled (item_length p.form)) (take (size b.plan j) b.items)) plan spelled in
+      subst (λ (x : Parts V). IsAtWork faults ds (with_entry x w) a) (sym same)
+      (exchange_stands j is later (take (size b.plan j) b.targets) (take (size b.plan j) b.items) of_f long drawn_is each filled spelled_f e s went_f)
+
 -- the answer, by the event
 pub answered_is : (e : Event) (t : Turn) (s : Option Stop) → answer_of e None ≡ t → answered t s ≡ answer_of e s
 answered_is e t None is = sym is
 answered_is e t (Some s) is = refl
+
+-- an exchange keeps the plan
+pub exchange_keeps : (old e : Exchanges) (j : ℕ) (handed : Handed) (s : Option Stop) → StopsExchanging old e j handed s → e.plan ≡ old.plan
+exchange_keeps old e j handed None went = went.1.plan
+exchange_keeps old e j handed (Some (stop.StashOverflow k)) went = ap (λ (x : Exchanges). x.plan) went.2
+exchange_keeps old e j handed (Some (stop.DeviceFault n)) never = absurd never
+exchange_keeps old e j handed (Some (stop.Tampered n)) never = absurd never

@@ -56,6 +56,9 @@ StopsExchanging old new j handed (Some (stop.DeviceFault number)) = ⊥
 StopsExchanging old new j handed (Some (stop.Tampered number)) = ⊥
 
 -- what is counted after a write
+abbrev pub one_more : ℕ → Option Stop → ℕ
+one_more n None = n + 1
+one_more n (Some s) = n
+
 abbrev pub counted_after : Counted → Option Stop → Counted
-counted_after c None = record c { writes = c.writes + 1 }
-counted_after c (Some s) = c
+counted_after c s = record c { writes = one_more c.writes s }

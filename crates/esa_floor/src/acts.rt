@@ -1,11 +1,13 @@
 //! The acts of a turn. Each makes one access at most, and tells the stop that there is after it.
 
-ghost use Rattle.std.specs.Prelude.{◌≡◌, ◌+◌, ◌-◌, ◌<◌, ◌≤◌, ◌++◌, [], ◌∷◌, Some, None, All};
+ghost use Rattle.std.specs.Prelude.{◌≡◌, ◌+◌, ◌-◌, ◌*◌, ◌^◌, ◌<◌, ◌≤◌, ◌++◌, [], ◌∷◌, Some, None, All, length};
+ghost use Rattle.esa_params.specs.Form.{envelope_length};
+ghost use Rattle.esa_params.specs.Sizes.{size};
 ghost use Rattle.esa_params.specs.Slots.{access_of, at, item_length, number_of};
 ghost use Rattle.esa_spec.specs.Traces.{chunk_slot};
 ghost use Rattle.esa_vault.specs.Placed.{IsSpelled};
 ghost use Rattle.esa_vault.specs.Seals.{opens};
-ghost use Rattle.esa_floor.specs.Acts.{StopsExchanging, StopsReading, StopsWriting, answered};
+ghost use Rattle.esa_floor.specs.Acts.{StopsExchanging, StopsReading, StopsWriting, answered, one_more};
 ghost use Rattle.esa_floor.specs.Exchanges.{AreOf};
 ghost use Rattle.esa_floor.specs.Working.{AreDrawn, AreOpened, IsBegun, attempt_in, handed_by, passed};
 
@@ -51,6 +53,7 @@ pub(crate) fn exchange<C: Coins>(
     ensures worker { result ≡ None → worker.new ≡ record worker.old { phase = 3; stage = Stage.Chunks; buffers = record worker.old.buffers { chunks = worker.new.buffers.chunks } } }
     ensures drawn { AreDrawn (C.target_list worker.old.coins (attempt_in worker.old.attempt) worker.old.bucket) worker.old.buffers worker.old.bucket }
     ensures opened { AreOpened worker.old.outer worker.old.buffers worker.old.bucket }
+    ensures text { length worker.old.buffers.text ≡ size worker.old.buffers.plan 0 * envelope_length worker.old.buffers.plan.form }
     ensures of { AreOf exchanger.old.plan exchanger.old.stash exchanger.old.counts }
 {
     let bucket = worker.bucket();
@@ -91,5 +94,17 @@ pub(crate) fn answer(turn: Turn, stop: Option<Stop>) -> Turn
     match stop {
         None => turn,
         Some(stop) => Turn::Stopped(stop),
+    }
+}
+
+/// How many chunks were written after a write, by the stop that there is after it. `most` are written at most before it.
+pub(crate) fn counted(writes: u32, most: u32, stop: Option<Stop>) -> u32
+    requires few { writes ≤ most }
+    requires fits { most < 2 ^ 32 - 1 }
+    ensures { result ≡ one_more writes stop }
+{
+    match stop {
+        None => writes + 1,
+        Some(_) => writes,
     }
 }

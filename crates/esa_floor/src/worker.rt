@@ -1,6 +1,8 @@
 //! A worker: what it holds of the bucket of its round, and its private work between turns.
 
-ghost use Rattle.std.specs.Prelude.{◌≡◌, ◌≢◌, ℕ, ◌+◌, ◌-◌, ◌<◌, ◌≤◌, ◌↔◌, Some, None, All, IsTrue, IfOk, IsOk, OnOk, OnErr, take};
+ghost use Rattle.std.specs.Prelude.{◌≡◌, ◌≢◌, ℕ, ◌+◌, ◌-◌, ◌*◌, ◌<◌, ◌≤◌, ◌↔◌, Some, None, All, IsTrue, IfOk, IsOk, OnOk, OnErr, length, take};
+ghost use Rattle.esa_params.specs.Form.{envelope_length};
+ghost use Rattle.esa_params.specs.Sizes.{size};
 ghost use Rattle.esa_params.specs.Slots.{at, block_length, item_length, plain_length};
 ghost use Rattle.esa_spec.specs.Traces.{chunk_slot};
 ghost use Rattle.esa_stash.specs.Stash.{chunks as chunks_of, count, exchanged, total};
@@ -233,6 +235,7 @@ impl<'c, C: Coins> Worker<'c, C> {
         ensures failed { OnErr result (self.new ≡ self.old) }
         ensures drawn { AreDrawn (C.target_list self.old.coins (attempt_in self.old.attempt) self.old.bucket) self.old.buffers self.old.bucket }
         ensures opened { AreOpened self.old.outer self.old.buffers self.old.bucket }
+        ensures text { length self.old.buffers.text ≡ size self.old.buffers.plan 0 * envelope_length self.old.buffers.plan.form }
     {
         self.buffers.exchange(exchanger, self.bucket)?;
         self.phase = 3;
