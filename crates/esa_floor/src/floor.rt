@@ -423,4 +423,66 @@ impl<V: Device, G: Told> Floor<V, G> {
         self.writes = acts::counted(self.writes, b * b, self.stop);
         acts::answer(Turn::Wrote { bucket, target }, self.stop)
     }
+    /// The act of a worker's turn in a round that has a bucket.
+    fn go_on<C: Coins>(&mut self, worker: &mut Worker<'_, C>) -> Turn
+        requires at_work { IsAtWork V.faults G.draws self.old (attempt_begun self.old) }
+        requires runs { self.old.stop ≡ None }
+        requires number { worker.old.number ≢ self.old.plan.workers }
+        requires phase { next_phase self.old.plan.b (turns_made self.old) worker.old.number ≡ worker.old.phase }
+        requires plan { worker.old.buffers.plan ≡ self.old.plan }
+        requires run { worker.old.run ≡ self.old.run }
+        requires attempt { worker.old.attempt ≡ Some (attempt_begun self.old) }
+        requires most { worker.old.phase < self.old.plan.b + 3 }
+        requires items { worker.old.phase ≡ 2 → worker.old.bucket < self.old.plan.b → worker.old.stage ≡ Stage.Items }
+        requires blocks { 3 ≤ worker.old.phase → worker.old.bucket < self.old.plan.b → worker.old.stage ≡ Stage.Blocks }
+        requires draws { (j : ℕ) → j < self.old.plan.b → C.target_list worker.old.coins (attempt_begun self.old) j ≡ (G.draws (attempt_begun self.old)).targets j }
+        requires drawn { (j : ℕ) → j < self.old.plan.b → length ((G.draws (attempt_begun self.old)).targets j) ≡ size self.old.plan j }
+        requires ready { self.old.recorder.plan ≡ Some self.old.plan }
+        requires room { 0 < self.old.recorder.room }
+        requires later { 1 ≤ worker.old.phase }
+        requires held { held self.old.plan.b (turns_made self.old) worker.old.number ≡ worker.old.bucket }
+        requires bucket { worker.old.bucket < self.old.plan.b }
+        ensures stands { IsAtWork V.faults G.draws (with_entry self.new worker.old.number) (attempt_begun self.old) }
+        ensures answer { result ≡ answer_of (next self.old.plan.b (turns_made self.old) worker.old.number) self.new.stop }
+        ensures kept { self.new ≡ record self.old { recorder = self.new.recorder; stash = self.new.stash; counts = self.new.counts; counted = self.new.counted; stop = self.new.stop } }
+    {
+        let phase = worker.phase();
+        if phase == 1 {
+            return self.read(worker);
+        }
+        if phase == 2 {
+            return self.exchange(worker);
+        }
+        self.write(worker)
+    }
+
+    /// The act of a worker's turn.
+    fn act<C: Coins>(&mut self, worker: &mut Worker<'_, C>) -> Turn
+        requires at_work { IsAtWork V.faults G.draws self.old (attempt_begun self.old) }
+        requires runs { self.old.stop ≡ None }
+        requires number { worker.old.number ≢ self.old.plan.workers }
+        requires phase { next_phase self.old.plan.b (turns_made self.old) worker.old.number ≡ worker.old.phase }
+        requires plan { worker.old.buffers.plan ≡ self.old.plan }
+        requires run { worker.old.run ≡ self.old.run }
+        requires attempt { worker.old.attempt ≡ Some (attempt_begun self.old) }
+        requires most { worker.old.phase < self.old.plan.b + 3 }
+        requires items { worker.old.phase ≡ 2 → worker.old.bucket < self.old.plan.b → worker.old.stage ≡ Stage.Items }
+        requires blocks { 3 ≤ worker.old.phase → worker.old.bucket < self.old.plan.b → worker.old.stage ≡ Stage.Blocks }
+        requires draws { (j : ℕ) → j < self.old.plan.b → C.target_list worker.old.coins (attempt_begun self.old) j ≡ (G.draws (attempt_begun self.old)).targets j }
+        requires drawn { (j : ℕ) → j < self.old.plan.b → length ((G.draws (attempt_begun self.old)).targets j) ≡ size self.old.plan j }
+        requires ready { self.old.recorder.plan ≡ Some self.old.plan }
+        requires room { 0 < self.old.recorder.room }
+        requires held { worker.old.phase ≢ 0 → worker.old.bucket ≡ min (held self.old.plan.b (turns_made self.old) worker.old.number) self.old.plan.b }
+        ensures stands { IsAtWork V.faults G.draws (with_entry self.new worker.old.number) (attempt_begun self.old) }
+        ensures answer { result ≡ answer_of (next self.old.plan.b (turns_made self.old) worker.old.number) self.new.stop }
+        ensures kept { self.new ≡ record self.old { recorder = self.new.recorder; stash = self.new.stash; counts = self.new.counts; counted = self.new.counted; stop = self.new.stop } }
+    {
+        if worker.phase() == 0 {
+            return self.claim(worker);
+        }
+        if worker.bucket() >= self.exchanger.plan().b() {
+            return self.pass(worker);
+        }
+        self.go_on(worker)
+    }
 }
