@@ -56,8 +56,8 @@ module _ (b : ℕ) (h : List ℕ) (w : ℕ) where
     next_writes third =
         inside (λ none. absurd (omega (arith, none, third)))
         ∙ ap (λ (t : Bool). if t then Claim j else if next_phase b h w == 1 then Read j else if next_phase b h w == 2 then Exchange j else Write j (next_phase b h w - 3))
-            (apart (next_phase b h w) 0 (λ none. absurd (omega (arith, none, third))))
+        (apart (next_phase b h w) 0 (λ none. absurd (omega (arith, none, third))))
         ∙ ap (λ (t : Bool). if t then Read j else if next_phase b h w == 2 then Exchange j else Write j (next_phase b h w - 3))
-            (apart (next_phase b h w) 1 (λ one. absurd (omega (arith, one, third))))
+        (apart (next_phase b h w) 1 (λ one. absurd (omega (arith, one, third))))
         ∙ ap (λ (t : Bool). if t then Exchange j else Write j (next_phase b h w - 3))
-            (apart (next_phase b h w) 2 (λ two. absurd (omega (arith, two, third))))
+        (apart (next_phase b h w) 2 (λ two. absurd (omega (arith, two, third))))

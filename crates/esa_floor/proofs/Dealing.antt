@@ -1,5 +1,5 @@
 -- What waits after an exchange, and what leaves in chunks, is what waited before and what came.
-use Rattle.std.proofs.Common.{◌≡◌, ℕ, zero, suc, List, [], ◌∷◌, ◌++◌, length, take, drop, replicate, get_or, All, sym, subst, inl, inr}
+use Rattle.std.proofs.Common.{ℕ, zero, suc, List, [], ◌∷◌, length, replicate, get_or, All, sym, subst, inl, inr}
 use Rattle.std.specs.Prelude.{flat_map, ◌-◌, ◌==◌, Bool, if◌then◌else◌}
 use Rattle.std.proofs.lemmas.Bool.{cases_Bool}
 use Rattle.std.proofs.lemmas.List.Concat.{flat_map-cons}

@@ -4,7 +4,6 @@ use Rattle.std.specs.Prelude.{◌==◌, nat_lt}
 use Rattle.std.specs.Option.{option_to_list}
 use Rattle.std.proofs.lemmas.Bool.{cases_lt}
 use Rattle.std.proofs.lemmas.Bool.Decides.{nat_tests}
-use Rattle.esa_device.specs.Logs.{slot_number}
 use Rattle.esa_device.specs.Recording.{Recorded}
 use Rattle.std.proofs.lemmas.List.{length-map}
 use Rattle.std.proofs.lemmas.List.FromFn.{length-range_with_len}
@@ -151,7 +150,7 @@ module _ {V : Type 0} (faults : V → ℕ) (ds : ℕ → Draw) (f : Parts V) (a 
       exchange_stands new (Some (stop.StashOverflow k)) went =
           let over : nat_lt f.plan.s (total (stash.exchanged f.stash (targets, items))) ≡ true = let above = went.1 in grind (arith, nat_tests) in
           let at_j = stands_overflow faults ds f a w at_work worker runs f.recorder j is
-              (overflow_is f.plan (ds a) h w j f.stash new.stash targets items f.counts new.counts f.counted (ap exchanged is) (spread_is faults ds f a w at_work worker runs) of drawn same each ∙ over) refl refl in
+          (overflow_is f.plan (ds a) h w j f.stash new.stash targets items f.counts new.counts f.counted (ap exchanged is) (spread_is faults ds f a w at_work worker runs) of drawn same each ∙ over) refl refl in
           subst (λ (e : Exchanges). IsAtWork faults ds (turned f w f.recorder e.stash e.counts f.counted (Some (stop.StashOverflow k))) a) (sym went.2)
           (subst (λ (k : ℕ). IsAtWork faults ds (turned f w f.recorder f.stash f.counts f.counted (Some (stop.StashOverflow k))) a) (sym went.0) at_j)
       exchange_stands new (Some (stop.DeviceFault n)) never = absurd never
@@ -257,11 +256,11 @@ module _ {V : Type 0} (faults : V → ℕ) (ds : ℕ → Draw) (f : Parts V) (a 
       let went_f = subst (λ (x : Exchanges). StopsExchanging x e j (handed_by b j) s) is_was went in
       let drawn_is : take (size b.plan j) b.targets ≡ (ds a).targets j = targets ∙ ap (λ (o : Option ℕ). drawn (attempt_in o) j) attempt ∙ draws in
       let items_long : length (take (size b.plan j) b.items) ≡ size b.plan j =
-          ap length opened ∙ length-map (below (size b.plan j)) (item_opened outer (envelope_length b.plan.form) b.text) ∙ length-range_with_len 0 (size b.plan j) in
+      ap length opened ∙ length-map (below (size b.plan j)) (item_opened outer (envelope_length b.plan.form) b.text) ∙ length-range_with_len 0 (size b.plan j) in
       let each : length (take (size b.plan j) b.items) ≡ length (take (size b.plan j) b.targets) =
-          items_long ∙ ap (λ (p : Sizes). size p j) plan ∙ sym long ∙ sym (ap length drawn_is) in
+      items_long ∙ ap (λ (p : Sizes). size p j) plan ∙ sym long ∙ sym (ap length drawn_is) in
       let fits : size b.plan j * envelope_length b.plan.form ≤ length b.text =
-          subst (λ (n : ℕ). size b.plan j * envelope_length b.plan.form ≤ n) (sym text) (bytes_fit b.plan j (envelope_length b.plan.form)) in
+      subst (λ (n : ℕ). size b.plan j * envelope_length b.plan.form ≤ n) (sym text) (bytes_fit b.plan j (envelope_length b.plan.form)) in
       let filled = subst (All IsHeld) (sym opened) (opened_are_held outer (envelope_length b.plan.form) b.text (size b.plan j)) in
       let spelled = subst (All (IsSpelled (item_length b.plan.form))) (sym opened) (opened_are_spelled outer b.plan.form b.text (size b.plan j) fits) in
       let spelled_f = subst (λ (p : Sizes). All (IsSpelled (item_length p.form)) (take (size b.plan j) b.items)) plan spelled in

@@ -149,7 +149,11 @@ impl Buffers {
 
     /// Exchanges the items of a bucket for its chunks.
     #[tactic(auto, using(crate::proofs::Fitting::first_is_greatest))]
-    pub(crate) fn exchange(&mut self, exchanger: &mut Exchanger, bucket: u32) -> Result<(), Overflow>
+    pub(crate) fn exchange(
+        &mut self,
+        exchanger: &mut Exchanger,
+        bucket: u32,
+    ) -> Result<(), Overflow>
         requires bucket { bucket < self.old.plan.b }
         requires plan { exchanger.old.plan ≡ self.old.plan }
         requires below { All (λ target. target < exchanger.old.plan.b) (take (size self.old.plan bucket) self.old.targets) }

@@ -181,7 +181,16 @@ fn read_some<V: Device>(
         index: bucket,
     };
     let sealed = &mut sealed[..size + 40];
-    get_block_with(recorder, plan, keys, slot, attempt, 0, sealed, &mut text[..size])
+    get_block_with(
+        recorder,
+        plan,
+        keys,
+        slot,
+        attempt,
+        0,
+        sealed,
+        &mut text[..size],
+    )
 }
 
 /// The same in buffers.

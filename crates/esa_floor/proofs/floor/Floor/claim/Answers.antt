@@ -1,5 +1,5 @@
 -- A round was begun with the next bucket, or with none.
-use Rattle.std.proofs.Common.{◌≡◌, ℕ, ◌+◌, ◌<◌, ◌≤◌, None, sym, ap, ◌∙◌, arith}
+use Rattle.std.proofs.Common.{◌≡◌, ℕ, ◌+◌, None, sym, ap, ◌∙◌, arith}
 use Rattle.esa_params.specs.Sizes.{Sizes}
 use Rattle.esa_spec.specs.declared.event.Event.{Event}
 use Rattle.esa_spec.specs.declared.event.Event.TheVariants.{Claim}

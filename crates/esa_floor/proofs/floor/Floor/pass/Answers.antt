@@ -1,5 +1,5 @@
 -- A turn of a round that has no bucket was passed.
-use Rattle.std.proofs.Common.{◌≡◌, None, sym, ap}
+use Rattle.std.proofs.Common.{None, sym, ap}
 use Rattle.esa_spec.specs.declared.event.Event.{Event}
 use Rattle.esa_floor.specs.Acts.{answer_of}
 use Rattle.esa_floor.specs.Standing.{attempt_begun, turns_made}

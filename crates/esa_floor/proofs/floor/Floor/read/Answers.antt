@@ -1,5 +1,5 @@
 -- The block of the worker's bucket was read.
-use Rattle.std.proofs.Common.{◌≡◌, ◌≢◌, ℕ, None, sym, ap, ◌∙◌, arith}
+use Rattle.std.proofs.Common.{◌≢◌, ℕ, None, sym, ap, ◌∙◌, arith}
 use Rattle.esa_spec.specs.Turns.{next_phase}
 use Rattle.esa_spec.specs.declared.event.Event.{Event}
 use Rattle.esa_spec.specs.declared.event.Event.TheVariants.{Read}

@@ -1,10 +1,8 @@
 -- Chunks of items that can be spelled can be spelled.
-use Rattle.std.proofs.Common.{◌≡◌, ℕ, ◌*◌, ◌≤◌, All, length, map, sym, ap, ◌∙◌, subst}
-use Rattle.std.specs.Prelude.{List}
+use Rattle.std.proofs.Common.{◌≡◌, ℕ, ◌*◌, ◌≤◌, All, sym, ap, ◌∙◌, subst}
 use Rattle.esa_params.specs.Form.{envelope_length}
 use Rattle.esa_params.specs.Sizes.{Sizes, size}
 use Rattle.esa_params.specs.Slots.{item_length}
-use Rattle.esa_report.specs.declared.item.Item.{Item}
 use Rattle.esa_vault.specs.Placed.{IsSpelled}
 use Rattle.esa_vault.proofs.TextLaws.{dummy_spelled}
 use Rattle.esa_floor.specs.Working.{Buffered, Holds, Working, handed_by}
@@ -27,8 +25,7 @@ invariant_of-self-2 g c =
     let items = subst (All (IsSpelled (item_length p.form))) (sym holds.2) (opened_are_spelled c.self.inside.outer p.form b.text (size p c.self.inside.bucket) fits) in
     let waits = subst (λ (q : Sizes). All (All (IsSpelled (item_length q.form))) c.args.exchanger.now.stash.queues) (sym plan_is) c.requires.spelled in
     let all = subst (All (IsSpelled (item_length p.form))) (sym c.in_ok-exchange.ensures.chunks)
-        (chunks_after (IsSpelled (item_length p.form)) c.args.exchanger.now.stash (handed_by b c.self.inside.bucket) waits items (dummy_spelled (item_length p.form))) in
-    (
+    (chunks_after (IsSpelled (item_length p.form)) c.args.exchanger.now.stash (handed_by b c.self.inside.bucket) waits items (dummy_spelled (item_length p.form))) in (
       c.self.invariant.0 ∙ sym same,
       subst (λ (q : Sizes). Holds c.self.inside.outer c.self.inside.run (g.C.Coins.target_list c.self.inside.coins.now) c.self.inside.attempt c.self.inside.bucket (record c.exchange.new.self { plan = q }) Chunks) (sym same) (holds.0, holds.1, all),
     )

@@ -1,5 +1,5 @@
 -- The block was sealed for its slot.
-use Rattle.std.proofs.Common.{◌≡◌, ℕ, ◌-◌, ◌<◌, length, ap, ◌∙◌, subst, sym, arith}
+use Rattle.std.proofs.Common.{ℕ, ◌-◌, ap, ◌∙◌, subst, sym, arith}
 use Rattle.esa_params.specs.Sizes.{ArePlanned, Sizes}
 use Rattle.esa_params.specs.Slots.{nonce_of}
 use Rattle.esa_spec.specs.Traces.{chunk_slot}
