@@ -7,7 +7,7 @@ use borrow.Rule.Slice.PartMut.{put_mid}
 use Rattle.esa_floor.specs.Parts.{count_at}
 
 -- the counts of a bucket end before those of the next begin
-ends_before : (b j k : ℕ) → j < k → j * b + b ≤ k * b
+pub ends_before : (b j k : ℕ) → j < k → j * b + b ≤ k * b
 ends_before b j k less = let next = suc-mul j b in let product = mul-le-mul_right b less in omega arith
 
 pub row_inside : (b j : ℕ) → j < b → j * b + b ≤ b * b

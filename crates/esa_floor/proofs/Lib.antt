@@ -1,6 +1,10 @@
+mod Acting
 mod Counting
+mod Dealing
 mod Exchanging
 mod Fitting
+mod Holding
+mod Making
 mod Opening
 mod Sealing
 mod Spreading

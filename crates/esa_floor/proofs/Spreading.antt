@@ -1,5 +1,5 @@
 -- What one turn more makes of the stash, the counts and what is counted.
-use Rattle.std.proofs.Common.{◌≡◌, ◌≢◌, ℕ, ◌+◌, ◌<◌, ◌≤◌, min, false, Bool, List, [], ◌∷◌, ◌++◌, length, Some, None, sym, ap, ◌∙◌, subst, arith, inl, inr, append-nil}
+use Rattle.std.proofs.Common.{◌≡◌, ◌≢◌, ℕ, ◌+◌, ◌<◌, ◌≤◌, min, false, Bool, List, [], ◌∷◌, ◌++◌, length, All, Some, None, sym, ap, ◌∙◌, subst, arith, inl, inr, append-nil}
 use Rattle.std.specs.Prelude.{count_by, ◌==◌, nat_lt, if◌then◌else◌}
 use Rattle.std.specs.Option.{option_to_list}
 use Rattle.std.proofs.lemmas.Bool.{cases_Bool}
@@ -10,6 +10,7 @@ use Rattle.esa_laws.proofs.PermLaws.{occurrences, occurs-append, occurs-cons}
 use Rattle.esa_laws.proofs.TurnLaws.{order-push}
 use Rattle.esa_laws.proofs.VerdictLaws.{failing-none, failing-same}
 use Rattle.esa_params.specs.Sizes.{Sizes, size}
+use Rattle.esa_params.specs.Slots.{item_length}
 use Rattle.esa_report.specs.declared.item.Item.{Item}
 use Rattle.esa_spec.specs.Draws.{Draw}
 use Rattle.esa_spec.specs.Lines.{backlog, chunk, overflows}
@@ -17,9 +18,11 @@ use Rattle.esa_spec.specs.Places.{exchange_of}
 use Rattle.esa_spec.specs.Turns.{claims, exchanged, next, order, writes}
 use Rattle.esa_stash.specs.Stash.{Held, count, queue_at, total}
 use Rattle.esa_stash.specs.Stash as stash
+use Rattle.esa_vault.specs.Placed.{IsHeld, IsSpelled}
 use Rattle.esa_floor.specs.Exchanges.{AreOf}
 use Rattle.esa_floor.specs.Parts.{Counted, count_at}
 use Rattle.esa_floor.specs.Standing.{IsSpread}
+use Rattle.esa_floor.proofs.Dealing.{queues_after}
 use Rattle.esa_floor.proofs.Exchanging.{count_is, total_is, waits_after}
 
 order-same : (b : ℕ) (h : List ℕ) (w : ℕ) → exchanged (next b h w) ≡ None → order b (h ++ w ∷ []) ≡ order b h
@@ -38,6 +41,8 @@ spread-other p d h w held counts counted after none spread claimed wrote =
     record {
       runs = failing-same p d h w none ∙ spread.runs;
       waits = λ i inside. spread.waits i inside ∙ ap (λ (o : List ℕ). backlog p d o (length o) i) (sym same);
+      held = spread.held;
+      spelled = spread.spelled;
       chunks = λ j i inside there.
           spread.chunks j i inside (subst (λ (o : List ℕ). 1 ≤ count_by (λ k. k == j) o) same there)
           ∙ ap (λ (o : List ℕ). length (chunk p d o (exchange_of o j) i)) (sym same);
@@ -65,6 +70,7 @@ module _ (p : Sizes) (d : Draw) (h : List ℕ) (w j : ℕ) (held now : Held) (ta
     module _ (fits : total (stash.exchanged held (targets, items)) ≤ p.s) (made : now ≡ stash.exchanged held (targets, items))
         (here : (i : ℕ) → i < p.b → count_at p.b after j i ≡ count held (targets, items) i)
         (others : (k i : ℕ) → i < p.b → k ≢ j → count_at p.b after k i ≡ count_at p.b counts k i)
+        (filled : All IsHeld items) (spelled : All (IsSpelled (item_length p.form)) items)
         (claimed : counted.claims ≡ min (claims p.b (h ++ w ∷ [])) p.b) (wrote : counted.writes ≡ writes p.b (h ++ w ∷ []))
       where
         order_is : order p.b (h ++ w ∷ []) ≡ order p.b h ++ j ∷ []
@@ -93,6 +99,8 @@ module _ (p : Sizes) (d : Draw) (h : List ℕ) (w j : ℕ) (held now : Held) (ta
               ap (λ (held : Held). length (queue_at held i)) made
               ∙ waits_after p d (order p.b h) j held targets items counts of drawn is each spread.waits i inside
               ∙ ap (λ (o : List ℕ). backlog p d o (length o) i) (sym order_is);
+          held = subst (λ (held : Held). All (All IsHeld) held.queues) (sym made) (queues_after IsHeld held (targets, items) spread.held filled);
+          spelled = subst (λ (held : Held). All (All (IsSpelled (item_length p.form))) held.queues) (sym made) (queues_after (IsSpelled (item_length p.form)) held (targets, items) spread.spelled spelled);
           chunks = λ k i inside there. elim (cases_Bool (k == j)) [
             | inl same ↦
                 let one : k ≡ j = grind (arith, nat_tests) in

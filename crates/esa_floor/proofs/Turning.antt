@@ -52,13 +52,13 @@ module _ {V : Type 0} (faults : V → ℕ) (ds : ℕ → Draw) (f : Parts V) (a 
 
   -- where no turn has failed, all of them were made
   module _ (runs : f.stop ≡ None) where
-    all_made : (at_work.done ≡ length h) × (faults f.recorder.device ≡ f.faults)
+    pub all_made : (at_work.done ≡ length h) × (faults f.recorder.device ≡ f.faults)
     all_made = subst (λ (s : Option Stop). StopsAt faults (ds a) a f at_work.done s) runs at_work.stops
 
     front_is : take at_work.done h ≡ h
     front_is = take_all at_work.done h (let all = all_made.0 in omega arith)
 
-    spread_is : IsSpread f.plan (ds a) h f.stash f.counts f.counted
+    pub spread_is : IsSpread f.plan (ds a) h f.stash f.counts f.counted
     spread_is = subst (λ (g : List ℕ). IsSpread f.plan (ds a) g f.stash f.counts f.counted) front_is at_work.spread
 
     traced_is : f.recorder.trace ≡ (load f.plan ++ attempts f.plan ds 0 (lists_before f)) ++ spread f.plan (ds a) a h

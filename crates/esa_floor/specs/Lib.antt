@@ -1,3 +1,4 @@
+pub mod Acts
 pub mod Exchanges
 pub mod Marks
 pub mod Parts

@@ -1,8 +1,8 @@
 -- What a floor stands for: the history of its turns decides everything else that it holds.
-use Rattle.std.specs.Prelude.{◌≡◌, ℕ, ◌+◌, ◌-◌, ◌/◌, ◌%◌, ◌<◌, ◌≤◌, ◌==◌, min, true, false, List, [], ◌∷◌, ◌++◌, length, take, count_by, slice_index_or, Option, Some, None}
+use Rattle.std.specs.Prelude.{◌≡◌, ℕ, ◌+◌, ◌-◌, ◌/◌, ◌%◌, ◌<◌, ◌≤◌, ◌==◌, min, true, false, List, [], ◌∷◌, ◌++◌, length, take, count_by, slice_index_or, All, Option, Some, None}
 use Rattle.esa_outside.specs.Cause.{Rose}
 use Rattle.esa_params.specs.Sizes.{Sizes, size}
-use Rattle.esa_params.specs.Slots.{at, greatest_trace}
+use Rattle.esa_params.specs.Slots.{at, greatest_trace, item_length}
 use Rattle.esa_params.specs.declared.slot.Access.{Access}
 use Rattle.esa_params.specs.declared.slot.Op.TheVariants.{Read as Reads}
 use Rattle.esa_params.specs.declared.slot.Region.{Region}
@@ -18,6 +18,7 @@ use Rattle.esa_spec.specs.Verdicts.{failing}
 use Rattle.esa_spec.specs.declared.event.Event.TheVariants.{Exchange, Read}
 use Rattle.esa_stash.specs.Stash.{Held, empty_stash, queue_at}
 use Rattle.esa_device.specs.Logs.{slot_number}
+use Rattle.esa_vault.specs.Placed.{IsHeld, IsSpelled}
 use Rattle.esa_vault.specs.Seals.{opens}
 use Rattle.esa_floor.specs.Parts.{Counted, Parts, count_at, no_counts}
 use Rattle.esa_floor.specs.declared.turn.Outcome.{Outcome}
@@ -94,6 +95,9 @@ pub record IsSpread (p : Sizes) (d : Draw) (h : List ℕ) (stash : Held) (counts
   pub runs : failing p d (order p.b h) ≡ None
   -- each queue is as long as the backlog of its target
   pub waits : (i : ℕ) → i < p.b → length (queue_at stash i) ≡ backlog p d (order p.b h) (length (order p.b h)) i
+  -- what waits is no dummy, and bytes can spell it
+  pub held : All (All IsHeld) stash.queues
+  pub spelled : All (All (IsSpelled (item_length p.form))) stash.queues
   -- the chunks of each bucket that was exchanged are counted
   pub chunks : (j i : ℕ) → i < p.b → 1 ≤ count_by (λ k. k == j) (order p.b h)
       → count_at p.b counts j i ≡ length (chunk p d (order p.b h) (exchange_of (order p.b h) j) i)

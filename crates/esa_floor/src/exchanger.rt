@@ -2,7 +2,7 @@
 
 ghost use Rattle.std.specs.Prelude.{◌≡◌, ◌≢◌, ℕ, ◌+◌, ◌*◌, ◌<◌, ◌≤◌, ◌↔◌, All, IfOk, IfErr, IsOk, OnOk, OnErr, length};
 ghost use Rattle.esa_stash.specs.Dealing.{chunk_at};
-ghost use Rattle.esa_stash.specs.Stash.{count, empty_stash, exchanged, padded, padded_chunk, queue_at, total, without};
+ghost use Rattle.esa_stash.specs.Stash.{chunks as chunks_of, count, empty_stash, exchanged, padded, padded_chunk, queue_at, total, without};
 ghost use Rattle.esa_floor.specs.Exchanges.{AreOf};
 ghost use Rattle.esa_floor.specs.Parts.{count_at, no_counts};
 
@@ -85,6 +85,7 @@ impl Exchanger {
         ensures fits { IsOk result ↔ (total (exchanged self.old.stash (targets.now, items.now)) ≤ self.old.plan.s) }
         ensures plan { self.new.plan ≡ self.old.plan }
         ensures stash { OnOk result (self.new.stash ≡ exchanged self.old.stash (targets.now, items.now)) }
+        ensures chunks { OnOk result (chunks.new ≡ chunks_of self.old.stash (targets.now, items.now)) }
         ensures each { OnOk result ((i : ℕ) → i < self.old.plan.b → chunk_at self.old.plan.c chunks.new i ≡ padded_chunk self.old.stash (targets.now, items.now) i) }
         ensures counts { OnOk result ((i : ℕ) → i < self.old.plan.b → count_at self.old.plan.b self.new.counts bucket i ≡ count self.old.stash (targets.now, items.now) i) }
         ensures others { OnOk result ((j i : ℕ) → i < self.old.plan.b → j ≢ bucket → count_at self.old.plan.b self.new.counts j i ≡ count_at self.old.plan.b self.old.counts j i) }

@@ -1,15 +1,21 @@
 //! A floor: what the turns of a run work on.
 
-ghost use Rattle.std.specs.Prelude.{◌≡◌, ℕ, ◌+◌, ◌*◌, ◌<◌, ◌≤◌, ◌↔◌, [], Some, None, IsTrue, IfOk, IfErr, IsOk, OnOk, OnErr, length};
+ghost use Rattle.std.specs.Prelude.{◌≡◌, ◌≢◌, ℕ, ◌+◌, ◌*◌, ◌<◌, ◌≤◌, ◌↔◌, [], min, Some, None, IsTrue, IfOk, IfErr, IsOk, OnOk, OnErr, length};
+ghost use Rattle.esa_params.specs.Sizes.{size};
 ghost use Rattle.esa_params.specs.Slots.{greatest_trace};
 ghost use Rattle.esa_spec.specs.Draws.{drawn};
+ghost use Rattle.esa_spec.specs.Turns.{held, next, next_phase};
 ghost use Rattle.esa_stash.specs.Stash.{empty_stash, padded, queue_at, without};
-ghost use Rattle.esa_floor.specs.Parts.{begun_as, count_at, ended_as, no_counts, nothing_counted};
-ghost use Rattle.esa_floor.specs.Standing.{Stands};
+ghost use Rattle.esa_floor.specs.Acts.{answer_of, counted_after};
+ghost use Rattle.esa_floor.specs.Working.{passed};
+ghost use Rattle.esa_floor.specs.Parts.{begun_as, count_at, ended_as, no_counts, nothing_counted, with_entry};
+ghost use Rattle.esa_floor.specs.Standing.{IsAtWork, Stands, attempt_begun, turns_made};
 
+use crate::acts;
 use crate::exchanger::Exchanger;
 use crate::told::Told;
-use crate::turn::{Outcome, Stop};
+use crate::turn::{Outcome, Stop, Turn};
+use crate::worker::{Stage, Worker};
 use esa_device::{Device, Recorder};
 use esa_envelope::Keys;
 use esa_params::Plan;
@@ -297,5 +303,186 @@ impl<V: Device, G: Told> Floor<V, G> {
         ensures value { result.now ≡ self.old.recorder }
     {
         &mut self.recorder
+    }
+}
+
+/// The acts of a turn, of an attempt whose turns have not stopped. Each leaves a floor that stands once the worker's
+/// number is added.
+impl<V: Device, G: Told> Floor<V, G> {
+    /// Begins a round of a worker: it takes the next bucket, if one is left.
+    fn claim<C: Coins>(&mut self, worker: &mut Worker<'_, C>) -> Turn
+        requires at_work { IsAtWork V.faults G.draws self.old (attempt_begun self.old) }
+        requires runs { self.old.stop ≡ None }
+        requires number { worker.old.number ≢ self.old.plan.workers }
+        requires phase { next_phase self.old.plan.b (turns_made self.old) worker.old.number ≡ 0 }
+        ensures stands { IsAtWork V.faults G.draws (with_entry self.new worker.old.number) (attempt_begun self.old) }
+        ensures answer { result ≡ answer_of (next self.old.plan.b (turns_made self.old) worker.old.number) None }
+        ensures floor { self.new ≡ record self.old { counted = record self.old.counted { claims = min (self.old.counted.claims + 1) self.old.plan.b } } }
+        ensures worker { worker.new ≡ record worker.old { phase = 1; bucket = self.old.counted.claims; stage = Stage.Empty } }
+    {
+        let bucket = self.claims;
+        worker.claim(bucket);
+        if bucket >= self.exchanger.plan().b() {
+            return Turn::Done;
+        }
+        self.claims = bucket + 1;
+        Turn::Claimed(bucket)
+    }
+
+    /// Passes a turn of a round that has no bucket.
+    fn pass<C: Coins>(&self, worker: &mut Worker<'_, C>) -> Turn
+        requires at_work { IsAtWork V.faults G.draws self.now (attempt_begun self.now) }
+        requires runs { self.now.stop ≡ None }
+        requires number { worker.old.number ≢ self.now.plan.workers }
+        requires phase { next_phase self.now.plan.b (turns_made self.now) worker.old.number ≢ 0 }
+        requires held { self.now.plan.b ≤ held self.now.plan.b (turns_made self.now) worker.old.number }
+        requires most { worker.old.phase < worker.old.buffers.plan.b + 3 }
+        ensures stands { IsAtWork V.faults G.draws (with_entry self.now worker.old.number) (attempt_begun self.now) }
+        ensures answer { result ≡ answer_of (next self.now.plan.b (turns_made self.now) worker.old.number) None }
+        ensures worker { worker.new ≡ passed worker.old }
+    {
+        worker.pass();
+        Turn::Idle
+    }
+
+    /// Reads the block of a worker's bucket.
+    fn read<C: Coins>(&mut self, worker: &mut Worker<'_, C>) -> Turn
+        requires at_work { IsAtWork V.faults G.draws self.old (attempt_begun self.old) }
+        requires runs { self.old.stop ≡ None }
+        requires number { worker.old.number ≢ self.old.plan.workers }
+        requires phase { next_phase self.old.plan.b (turns_made self.old) worker.old.number ≡ 1 }
+        requires held { held self.old.plan.b (turns_made self.old) worker.old.number ≡ worker.old.bucket }
+        requires bucket { worker.old.bucket < self.old.plan.b }
+        requires plan { worker.old.buffers.plan ≡ self.old.plan }
+        requires run { worker.old.run ≡ self.old.run }
+        requires attempt { worker.old.attempt ≡ Some (attempt_begun self.old) }
+        requires ready { self.old.recorder.plan ≡ Some self.old.plan }
+        requires room { 0 < self.old.recorder.room }
+        ensures stands { IsAtWork V.faults G.draws (with_entry self.new worker.old.number) (attempt_begun self.old) }
+        ensures answer { result ≡ answer_of (next self.old.plan.b (turns_made self.old) worker.old.number) self.new.stop }
+        ensures floor { self.new ≡ record self.old { recorder = self.new.recorder; stop = self.new.stop } }
+        ensures room { self.old.recorder.room ≡ self.new.recorder.room + 1 }
+        ensures ready { self.new.recorder.plan ≡ self.old.recorder.plan }
+        ensures trace { length self.new.recorder.trace ≡ length self.old.recorder.trace + 1 }
+        ensures worker { self.new.stop ≡ None → worker.new ≡ record worker.old { phase = 2; stage = Stage.Envelopes; buffers = record worker.old.buffers { text = worker.new.buffers.text; sealed = worker.new.buffers.sealed } } }
+    {
+        let bucket = worker.bucket();
+        self.stop = acts::read(&mut self.recorder, worker);
+        acts::answer(Turn::Read(bucket), self.stop)
+    }
+    /// Exchanges the items of a worker's bucket.
+    fn exchange<C: Coins>(&mut self, worker: &mut Worker<'_, C>) -> Turn
+        requires at_work { IsAtWork V.faults G.draws self.old (attempt_begun self.old) }
+        requires runs { self.old.stop ≡ None }
+        requires number { worker.old.number ≢ self.old.plan.workers }
+        requires phase { next_phase self.old.plan.b (turns_made self.old) worker.old.number ≡ 2 }
+        requires held { held self.old.plan.b (turns_made self.old) worker.old.number ≡ worker.old.bucket }
+        requires bucket { worker.old.bucket < self.old.plan.b }
+        requires plan { worker.old.buffers.plan ≡ self.old.plan }
+        requires attempt { worker.old.attempt ≡ Some (attempt_begun self.old) }
+        requires items { worker.old.stage ≡ Stage.Items }
+        requires draws { C.target_list worker.old.coins (attempt_begun self.old) worker.old.bucket ≡ (G.draws (attempt_begun self.old)).targets worker.old.bucket }
+        requires drawn { length ((G.draws (attempt_begun self.old)).targets worker.old.bucket) ≡ size self.old.plan worker.old.bucket }
+        ensures stands { IsAtWork V.faults G.draws (with_entry self.new worker.old.number) (attempt_begun self.old) }
+        ensures answer { result ≡ answer_of (next self.old.plan.b (turns_made self.old) worker.old.number) self.new.stop }
+        ensures floor { self.new ≡ record self.old { stash = self.new.stash; counts = self.new.counts; stop = self.new.stop } }
+        ensures worker { self.new.stop ≡ None → worker.new ≡ record worker.old { phase = 3; stage = Stage.Chunks; buffers = record worker.old.buffers { chunks = worker.new.buffers.chunks } } }
+    {
+        let bucket = worker.bucket();
+        self.stop = acts::exchange(&mut self.exchanger, worker);
+        acts::answer(Turn::Exchanged(bucket), self.stop)
+    }
+
+    /// Writes the chunk of a worker's bucket for the target of its phase.
+    fn write<C: Coins>(&mut self, worker: &mut Worker<'_, C>) -> Turn
+        requires at_work { IsAtWork V.faults G.draws self.old (attempt_begun self.old) }
+        requires runs { self.old.stop ≡ None }
+        requires number { worker.old.number ≢ self.old.plan.workers }
+        requires phase { next_phase self.old.plan.b (turns_made self.old) worker.old.number ≡ worker.old.phase }
+        requires held { held self.old.plan.b (turns_made self.old) worker.old.number ≡ worker.old.bucket }
+        requires bucket { worker.old.bucket < self.old.plan.b }
+        requires plan { worker.old.buffers.plan ≡ self.old.plan }
+        requires attempt { worker.old.attempt ≡ Some (attempt_begun self.old) }
+        requires least { 3 ≤ worker.old.phase }
+        requires most { worker.old.phase < self.old.plan.b + 3 }
+        requires blocks { worker.old.stage ≡ Stage.Blocks }
+        requires ready { self.old.recorder.plan ≡ Some self.old.plan }
+        requires room { 0 < self.old.recorder.room }
+        ensures stands { IsAtWork V.faults G.draws (with_entry self.new worker.old.number) (attempt_begun self.old) }
+        ensures answer { result ≡ answer_of (next self.old.plan.b (turns_made self.old) worker.old.number) self.new.stop }
+        ensures floor { self.new ≡ record self.old { recorder = self.new.recorder; counted = counted_after self.old.counted self.new.stop; stop = self.new.stop } }
+        ensures room { self.old.recorder.room ≡ self.new.recorder.room + 1 }
+        ensures ready { self.new.recorder.plan ≡ self.old.recorder.plan }
+        ensures trace { length self.new.recorder.trace ≡ length self.old.recorder.trace + 1 }
+        ensures last { self.new.recorder.last ≡ self.old.recorder.last }
+        ensures worker { self.new.stop ≡ None → worker.new ≡ passed worker.old }
+    {
+        let (bucket, target) = (worker.bucket(), worker.phase() - 3);
+        let b = self.exchanger.plan().b();
+        self.stop = acts::write(&mut self.recorder, worker);
+        self.writes = acts::counted(self.writes, b * b, self.stop);
+        acts::answer(Turn::Wrote { bucket, target }, self.stop)
+    }
+    /// The act of a worker's turn in a round that has a bucket.
+    fn go_on<C: Coins>(&mut self, worker: &mut Worker<'_, C>) -> Turn
+        requires at_work { IsAtWork V.faults G.draws self.old (attempt_begun self.old) }
+        requires runs { self.old.stop ≡ None }
+        requires number { worker.old.number ≢ self.old.plan.workers }
+        requires phase { next_phase self.old.plan.b (turns_made self.old) worker.old.number ≡ worker.old.phase }
+        requires plan { worker.old.buffers.plan ≡ self.old.plan }
+        requires run { worker.old.run ≡ self.old.run }
+        requires attempt { worker.old.attempt ≡ Some (attempt_begun self.old) }
+        requires most { worker.old.phase < self.old.plan.b + 3 }
+        requires items { worker.old.phase ≡ 2 → worker.old.bucket < self.old.plan.b → worker.old.stage ≡ Stage.Items }
+        requires blocks { 3 ≤ worker.old.phase → worker.old.bucket < self.old.plan.b → worker.old.stage ≡ Stage.Blocks }
+        requires draws { (j : ℕ) → j < self.old.plan.b → C.target_list worker.old.coins (attempt_begun self.old) j ≡ (G.draws (attempt_begun self.old)).targets j }
+        requires drawn { (j : ℕ) → j < self.old.plan.b → length ((G.draws (attempt_begun self.old)).targets j) ≡ size self.old.plan j }
+        requires ready { self.old.recorder.plan ≡ Some self.old.plan }
+        requires room { 0 < self.old.recorder.room }
+        requires later { 1 ≤ worker.old.phase }
+        requires held { held self.old.plan.b (turns_made self.old) worker.old.number ≡ worker.old.bucket }
+        requires bucket { worker.old.bucket < self.old.plan.b }
+        ensures stands { IsAtWork V.faults G.draws (with_entry self.new worker.old.number) (attempt_begun self.old) }
+        ensures answer { result ≡ answer_of (next self.old.plan.b (turns_made self.old) worker.old.number) self.new.stop }
+        ensures kept { self.new ≡ record self.old { recorder = self.new.recorder; stash = self.new.stash; counts = self.new.counts; counted = self.new.counted; stop = self.new.stop } }
+    {
+        let phase = worker.phase();
+        if phase == 1 {
+            return self.read(worker);
+        }
+        if phase == 2 {
+            return self.exchange(worker);
+        }
+        self.write(worker)
+    }
+
+    /// The act of a worker's turn.
+    fn act<C: Coins>(&mut self, worker: &mut Worker<'_, C>) -> Turn
+        requires at_work { IsAtWork V.faults G.draws self.old (attempt_begun self.old) }
+        requires runs { self.old.stop ≡ None }
+        requires number { worker.old.number ≢ self.old.plan.workers }
+        requires phase { next_phase self.old.plan.b (turns_made self.old) worker.old.number ≡ worker.old.phase }
+        requires plan { worker.old.buffers.plan ≡ self.old.plan }
+        requires run { worker.old.run ≡ self.old.run }
+        requires attempt { worker.old.attempt ≡ Some (attempt_begun self.old) }
+        requires most { worker.old.phase < self.old.plan.b + 3 }
+        requires items { worker.old.phase ≡ 2 → worker.old.bucket < self.old.plan.b → worker.old.stage ≡ Stage.Items }
+        requires blocks { 3 ≤ worker.old.phase → worker.old.bucket < self.old.plan.b → worker.old.stage ≡ Stage.Blocks }
+        requires draws { (j : ℕ) → j < self.old.plan.b → C.target_list worker.old.coins (attempt_begun self.old) j ≡ (G.draws (attempt_begun self.old)).targets j }
+        requires drawn { (j : ℕ) → j < self.old.plan.b → length ((G.draws (attempt_begun self.old)).targets j) ≡ size self.old.plan j }
+        requires ready { self.old.recorder.plan ≡ Some self.old.plan }
+        requires room { 0 < self.old.recorder.room }
+        requires held { worker.old.phase ≢ 0 → worker.old.bucket ≡ min (held self.old.plan.b (turns_made self.old) worker.old.number) self.old.plan.b }
+        ensures stands { IsAtWork V.faults G.draws (with_entry self.new worker.old.number) (attempt_begun self.old) }
+        ensures answer { result ≡ answer_of (next self.old.plan.b (turns_made self.old) worker.old.number) self.new.stop }
+        ensures kept { self.new ≡ record self.old { recorder = self.new.recorder; stash = self.new.stash; counts = self.new.counts; counted = self.new.counted; stop = self.new.stop } }
+    {
+        if worker.phase() == 0 {
+            return self.claim(worker);
+        }
+        if worker.bucket() >= self.exchanger.plan().b() {
+            return self.pass(worker);
+        }
+        self.go_on(worker)
     }
 }

@@ -7,6 +7,7 @@
 //! shuffle, esa_spec, and the lock, esa_turnstile.
 #![tactic(auto)]
 
+mod acts;
 mod buffers;
 mod exchanger;
 mod floor;

@@ -1,0 +1,31 @@
+-- The block of the worker's bucket was read.
+use Rattle.std.proofs.Common.{◌≢◌, ℕ, None, sym, ap, ◌∙◌, arith}
+use Rattle.esa_spec.specs.Turns.{next_phase}
+use Rattle.esa_spec.specs.declared.event.Event.{Event}
+use Rattle.esa_spec.specs.declared.event.Event.TheVariants.{Read}
+use Rattle.esa_floor.specs.Acts.{answer_of}
+use Rattle.esa_floor.specs.Parts.{Parts}
+use Rattle.esa_floor.specs.Standing.{attempt_begun, turns_made}
+use Rattle.esa_floor.proofs.Acting.{next_reads}
+use Rattle.esa_floor.proofs.Making.{answered_is, read_here}
+use Rattle.esa_floor.proofs.floor.Floor.read.Goals as goal
+
+pub returns-clause-stands : goal.returns-clause-stands
+returns-clause-stands g c =
+    let f = c.args.self.now in
+    let w = c.args.worker.now in
+    let later : next_phase f.plan.b (turns_made f) w.number ≢ 0 = λ none. let one = c.requires.phase in absurd (omega (arith, none, one)) in
+    read_here g.V.Device.faults g.G.Told.draws f (attempt_begun f) w.number c.requires.at_work c.requires.number c.requires.runs _
+    (ap (λ (f : Parts _). record f { recorder = c.read-self-inside.new.recorder; stop = c.read-self-inside.result }) c.self.view_is)
+    w.bucket (next_reads f.plan.b (turns_made f) w.number w.bucket c.requires.held c.requires.bucket c.requires.phase) later
+    w.buffers.plan w.attempt w.run c.self.inside.recorder c.requires.plan c.requires.attempt c.requires.run (ap (λ (f : Parts _). f.recorder) c.self.view_is)
+    c.read-self-inside.ensures.trace c.read-self-inside.ensures.stops
+
+pub returns-clause-answer : goal.returns-clause-answer
+returns-clause-answer g c =
+    let f = c.args.self.now in
+    let w = c.args.worker.now in
+    c.answer.ensures
+    ∙ answered_is _ _ c.read-self-inside.result
+    (ap (λ (e : Event). answer_of e None) (next_reads f.plan.b (turns_made f) w.number w.bucket c.requires.held c.requires.bucket c.requires.phase)
+    ∙ ap (λ (j : ℕ). answer_of (Read j) None) (sym c.bucket-bucket.ensures))
