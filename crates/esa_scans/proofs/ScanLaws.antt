@@ -1,11 +1,14 @@
 -- What a scan has read once it has read one block more.
 use Rattle.std.proofs.Common.{◌≡◌, ℕ, zero, suc, ◌+◌, ◌-◌, ◌*◌, ◌<◌, ◌≤◌, Bool, true, false, List, [], ◌∷◌, ◌++◌, length, map, Option, Some, None, Result, Ok, Err, refl, sym, ap, ◌∙◌, subst, arith, append_assoc, length-append}
-use Rattle.std.specs.List.{concat}
+use Rattle.std.specs.List.{concat, cons_option}
 use Rattle.std.specs.Option.{option_map_or}
-use Rattle.std.specs.Prelude.{unwrap_or}
+use Rattle.std.specs.Prelude.{if◌then◌else◌, unwrap_or}
 use Rattle.std.proofs.lemmas.List.FromFn.{map-range_with_len_more}
-use Rattle.esa_crowds.specs.Entries.{Entry, entries, entries_from}
-use Rattle.esa_crowds.specs.Kept.{sent_from}
+use Rattle.esa_crowds.specs.Entries.{Entry, entries, entries_from, if_real, inner_in}
+use Rattle.esa_crowds.specs.Kept.{drops_in, sent_from}
+use Rattle.esa_crowds.specs.Rows.{kept_at}
+use Rattle.esa_params.specs.declared.form.Form.{Form}
+use Rattle.esa_scans.specs.Forwarded.{HasForwarded}
 use Rattle.esa_params.specs.Form.{inner_length}
 use Rattle.esa_device.specs.Logs.{Carried}
 use Rattle.esa_device.specs.Recording.{Recorded}
@@ -16,11 +19,11 @@ use Rattle.esa_params.specs.declared.slot.Access.{Access}
 use Rattle.esa_params.specs.declared.slot.Op.{Op}
 use Rattle.esa_params.specs.declared.slot.Region.TheVariants.{Output}
 use Rattle.esa_report.specs.declared.item.Item.{Item}
-use Rattle.esa_spec.specs.Traces.{read_output}
+use Rattle.esa_spec.specs.Traces.{read_output, scan}
 use Rattle.esa_vault.specs.Seals.{is_text_of, opens, text_in}
 use Rattle.esa_vault.specs.Traffic.{IsRead, ReadAnswer}
 use Rattle.esa_vault.specs.declared.fault.VaultFault.{VaultFault}
-use Rattle.esa_scans.specs.Held.{items_in}
+use Rattle.esa_scans.specs.Held.{is_marked, items_in}
 use Rattle.esa_scans.specs.Scans.{AreOpen, FailsAt, HasRead, carried_from, is_open, items_from, items_of, reads, text_given}
 use Rattle.esa_scans.proofs.HeldLaws.{entries-append, length-items, sent-joined, sent_few}
 
@@ -159,3 +162,57 @@ few-sent p keys attempt kept given j sent here is =
     let few = sent_few p.form kept 0 (items_from p keys attempt 0 given) in
     let many : length (items_from p keys attempt 0 given) * inner_length p.form ≡ first p j * inner_length p.form = ap (λ n. n * inner_length p.form) (count-first p keys attempt given ∙ ap (first p) here) in
     omega (arith, few, many, ap length is)
+
+-- positions that are kept alike send alike
+pub sent_alike : (form : Form) (kept other : ℕ → Bool) (high q : ℕ) (items : List Item) → ((position : ℕ) → position < high → kept position ≡ other position) → q + length items ≤ high
+    → sent_from form kept q items ≡ sent_from form other q items
+sent_alike form kept other high q [] same fits = refl
+sent_alike form kept other high q (item ∷ items) same fits =
+    let here = same q (omega (arith, fits)) in
+    let rest = sent_alike form kept other high (suc q) items same (omega (arith, fits)) in
+    (λ i. cons_option (if here i then if_real item.kind (inner_in form item.body) else None) (rest i))
+
+module _ {V : Type 0} (told : V → Option (List (List ℕ))) (faults : V → ℕ) (p : Sizes) (keys : Keys) (attempt : ℕ) (old mid new : Recorded V) (one : List (List ℕ))
+    (all : length one ≡ p.b) (before : HasRead told faults p keys attempt one old mid)
+  where
+  -- the second scan failed
+  pub failed-later : (fault : VaultFault) (j : ℕ) → FailsAt {V = V} {T = Unit {0}} told faults p keys attempt [] j mid new (Err fault)
+      → FailsAt {V = V} {T = Unit {0}} told faults p keys attempt (scan p attempt) j old new (Err fault)
+  failed-later fault j failed = record {
+    inside = failed.inside;
+    trace = failed.trace
+        ∙ ap (λ (accesses : List Access). accesses ++ reads p attempt (j + 1)) (before.trace ∙ ap (λ n. old.trace ++ reads p attempt n) all)
+        ∙ append_assoc old.trace (scan p attempt) (reads p attempt (j + 1));
+    plan = failed.plan ∙ before.plan;
+    stays = failed.stays ∙ before.stays;
+    answer = subst (λ n. ReadAnswer {T = Unit {0}} (number_of p (at Output j)) n (faults new.device) (opens p keys (at Output j) attempt (size p j) new.last) (Err fault)) before.calm failed.answer;
+  }
+
+  -- both scans are whole
+  pub both-read : (two : List (List ℕ)) (key drops : List ℕ) (t : ℕ) (marks : List Bool) (seen : List Entry) (sent : List ℕ) → length two ≡ p.b → HasRead told faults p keys attempt two mid new
+      → seen ≡ entries p.form key (items_from p keys attempt 0 one)
+      → ((position : ℕ) → position < p.n → is_marked marks position ≡ kept_at (drops_in key drops) t seen position)
+      → sent ≡ concat (sent_from p.form (is_marked marks) 0 (items_from p keys attempt 0 two))
+      → HasForwarded told faults p keys attempt key drops t old new sent
+  both-read two key drops t marks seen sent whole after gathered marked is =
+      let fits : 0 + length (items_from p keys attempt 0 two) ≤ p.n = omega (arith, count-first p keys attempt two) in
+      record {
+        first = one;
+        second = two;
+        whole_first = all;
+        whole_second = whole;
+        trace = after.trace ∙ ap (λ n. mid.trace ++ reads p attempt n) whole
+            ∙ ap (λ (accesses : List Access). accesses ++ scan p attempt) (before.trace ∙ ap (λ n. old.trace ++ reads p attempt n) all)
+            ∙ append_assoc old.trace (scan p attempt) (scan p attempt);
+        log = after.log ∙ ap (λ (log : List Carried). log ++ carried_from p attempt 0 two) before.log
+            ∙ append_assoc old.log (carried_from p attempt 0 one) (carried_from p attempt 0 two);
+        room = omega (arith, before.room, after.room, all, whole);
+        plan = after.plan ∙ before.plan;
+        stays = after.stays ∙ before.stays;
+        calm = after.calm ∙ before.calm;
+        opened_first = before.opened;
+        opened_second = after.opened;
+        sent = is
+            ∙ ap concat (sent_alike p.form (is_marked marks) (kept_at (drops_in key drops) t seen) p.n 0 (items_from p keys attempt 0 two) marked fits)
+            ∙ ap (λ (seen : List Entry). concat (sent_from p.form (kept_at (drops_in key drops) t seen) 0 (items_from p keys attempt 0 two))) gathered;
+      }

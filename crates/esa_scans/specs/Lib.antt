@@ -9,3 +9,4 @@ pub mod Held
 pub mod Inside
 pub mod Joined
 pub mod Scans
+pub mod Sealed

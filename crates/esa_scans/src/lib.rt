@@ -12,5 +12,5 @@ mod sent;
 mod tables;
 mod text;
 
-pub use tables::Tables;
+pub use tables::{Tables, threshold};
 

@@ -1,15 +1,16 @@
 //! The tables of a threshold, and its two scans.
 
 ghost use Rattle.std.specs.Prelude.{◌≡◌, ◌+◌, ◌*◌, ◌≤◌, ◌⊎◌, ℕ, List, [], Some, IfOk, OnOk, OnErr};
+ghost use Rattle.esa_hmac.specs.Mac.{StandsFor};
 ghost use Rattle.esa_spec.specs.Traces.{scan};
 ghost use Rattle.esa_scans.specs.Forwarded.{HasForwarded};
 ghost use Rattle.esa_scans.specs.Scans.{FailsAt};
 
-use crate::scan::{forward, gather};
+use crate::scan::both;
 use crate::sent::Sent;
 use esa_crowds::Table;
 use esa_device::{Device, Recorder};
-use esa_envelope::{Keys, prepare};
+use esa_envelope::{Keys, Prepared, prepare};
 use esa_hmac::Mac;
 use esa_job::Drops;
 use esa_params::Plan;
@@ -62,4 +63,76 @@ impl Tables {
     {
         self.sent.all()
     }
+
+    /// Forgets what is forwarded.
+    fn forget(&mut self)
+        ensures { self.new ≡ record self.old { forward = [] } }
+    {
+        self.sent.clear();
+    }
+
+    /// Makes both scans of the output of an attempt.
+    fn scan<V: Device>(
+        &mut self,
+        recorder: &mut Recorder<V>,
+        keys: &Prepared,
+        attempt: u32,
+        codes: &Mac,
+        drops: &Drops,
+        t: u32,
+    ) -> Result<(), VaultFault>
+        requires ready { recorder.old.plan ≡ Some self.old.plan }
+        requires room { 2 * self.old.plan.b ≤ recorder.old.room }
+        ensures forwarded { OnOk result ((key : List ℕ) → StandsFor codes.now key []
+            → HasForwarded V.told V.faults self.old.plan keys.now attempt key drops.now t recorder.old recorder.new self.new.forward) }
+        ensures fault { OnErr result ((j : ℕ) × (FailsAt V.told V.faults self.old.plan keys.now attempt [] j recorder.old recorder.new result
+            ⊎ FailsAt V.told V.faults self.old.plan keys.now attempt (scan self.old.plan attempt) j recorder.old recorder.new result)) }
+        ensures plan { self.new.plan ≡ self.old.plan }
+    {
+        both(
+            recorder,
+            &self.plan,
+            keys,
+            attempt,
+            codes,
+            drops,
+            t,
+            &mut self.sealed,
+            &mut self.plain,
+            &mut self.table,
+            &mut self.sent,
+        )
+    }
+}
+
+/// Reads all blocks of the output of an attempt twice, in order. The first scan gathers the real records of the items,
+/// and the second forwards the inner envelopes at the positions that are kept. A dummy and a malformed item are passed
+/// over. A scan ends early only where the device failed or gave bytes that don't open, and then nothing is forwarded.
+pub fn threshold<V: Device>(
+    recorder: &mut Recorder<V>,
+    plan: &Plan,
+    run: &Keys,
+    attempt: u32,
+    dropkey: &[u8; 32],
+    drops: &Drops,
+    t: u32,
+    tables: &mut Tables,
+) -> Result<(), VaultFault>
+    requires tables { tables.old.plan ≡ plan.now }
+    requires ready { recorder.old.plan ≡ Some plan.now }
+    requires room { 2 * plan.now.b ≤ recorder.old.room }
+    ensures forwarded { OnOk result (HasForwarded V.told V.faults plan.now run.now attempt dropkey.now drops.now t recorder.old recorder.new tables.new.forward) }
+
+    // It ends with a read of the first scan, or with one of the second.
+    ensures fault { OnErr result ((j : ℕ) × (FailsAt V.told V.faults plan.now run.now attempt [] j recorder.old recorder.new result
+        ⊎ FailsAt V.told V.faults plan.now run.now attempt (scan plan.now attempt) j recorder.old recorder.new result)) }
+    ensures nothing { OnErr result (tables.new.forward ≡ []) }
+    ensures plan { tables.new.plan ≡ tables.old.plan }
+{
+    let codes = Mac::start(dropkey);
+    if let Err(fault) = tables.scan(recorder, &prepare(run), attempt, &codes, drops, t) {
+        tables.forget();
+        return Err(fault);
+    }
+    Ok(())
 }
