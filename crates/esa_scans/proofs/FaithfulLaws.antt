@@ -1,8 +1,14 @@
 -- What a faithful device gives of the output is what its blocks were sealed with.
-use Rattle.std.proofs.Common.{◌≡◌, ℕ, zero, suc, ◌+◌, ◌*◌, ◌^◌, ◌<◌, ◌≤◌, List, [], ◌∷◌, ◌++◌, length, get_or, map, Option, Some, refl, sym, ap, ◌∙◌, subst, arith, append_assoc, add-one}
-use Rattle.std.specs.List.{flat_map, range_with_len}
+use Rattle.std.proofs.Common.{◌≡◌, ℕ, zero, suc, ◌+◌, ◌*◌, ◌^◌, ◌<◌, ◌≤◌, List, [], ◌∷◌, ◌++◌, length, get_or, map, Option, Some, refl, sym, ap, ◌∙◌, subst, arith, append_assoc, append-nil, add-one}
+use Rattle.std.specs.List.{concat, flat_map, range_with_len}
 use Rattle.std.specs.Prelude.{All, slice_get, unwrap_or}
+use Rattle.esa_crowds.specs.Entries.{entries}
+use Rattle.esa_crowds.specs.Kept.{drops_in, forward, sent_from}
+use Rattle.esa_crowds.specs.Rows.{kept_at}
 use Rattle.esa_crowds.proofs.PlaceLaws.{picked-all}
+use Rattle.esa_crowds.proofs.SentLaws.{sent-forwarded}
+use Rattle.esa_device.specs.Recording.{Recorded}
+use Rattle.esa_scans.specs.Forwarded.{HasForwarded}
 use Rattle.esa_device.specs.Logs.{Carried, IsFaithful, Took}
 use Rattle.esa_device.proofs.LogLaws.{faithful-front, faithful-last, took-read}
 use Rattle.esa_envelope.specs.declared.keys.Keys.{Keys}
@@ -55,6 +61,23 @@ module _ (p : Sizes) (keys : Keys) (attempt : ℕ) (records : ℕ → List Item)
       ∙ ap (λ n. items_in (item_length p.form) n (text_of (item_length p.form) (records j))) (sym whole)
       ∙ items-found (item_length p.form) (records j) (either p.form (item_length p.form) refl) spelled
 
+  -- a read changes nothing of what the blocks were sealed with
+  sealed-read : (j : ℕ) (log : List Carried) (bytes : List ℕ) → AreSealed p keys attempt records log → AreSealed p keys attempt records (log ++ record { access = read_output p attempt j; bytes = Some bytes } ∷ [])
+  sealed-read j log bytes sealed k below =
+      let there = sealed k below in
+      record {
+        spelled = there.spelled;
+        whole = there.whole;
+        took = took-read p (number_of p (at Output k)) (sealed_block p keys (at Output k) attempt (text_of (item_length p.form) (records k))) log (record { access = read_output p attempt j; bytes = Some bytes }) refl there.took;
+      }
+
+  sealed-scan : (j : ℕ) (log : List Carried) (given : List (List ℕ)) → AreSealed p keys attempt records log → AreSealed p keys attempt records (log ++ carried_from p attempt j given)
+  sealed-scan j log [] sealed = subst (AreSealed p keys attempt records) (sym (append-nil log)) sealed
+  sealed-scan j log (bytes ∷ given) sealed =
+      let entry : Carried = record { access = read_output p attempt j; bytes = Some bytes } in
+      subst (AreSealed p keys attempt records) (append_assoc log (entry ∷ []) (carried_from p attempt (suc j) given))
+      (sealed-scan (suc j) (log ++ entry ∷ []) given (sealed-read j log bytes sealed))
+
   pub given-faithful : (j : ℕ) (log : List Carried) (given : List (List ℕ)) → j + length given ≤ p.b → AreSealed p keys attempt records log
       → IsFaithful p (log ++ carried_from p attempt j given) → items_from p keys attempt j given ≡ flat_map records (range_with_len j (length given))
   given-faithful j log [] fits sealed faithful = refl
@@ -67,6 +90,24 @@ module _ (p : Sizes) (keys : Keys) (attempt : ℕ) (records : ℕ → List Item)
       let gave = faithful-last p log entry bytes (sealed_block p keys (at Output j) attempt (text_of (item_length p.form) (records j)))
       (faithful-front p (log ++ entry ∷ []) (carried_from p attempt (suc j) given) longer) (refl, refl) here.took in
       let rest = given-faithful (suc j) (log ++ entry ∷ []) given (omega (arith, fits))
-      (λ k below. let there = sealed k below in record { spelled = there.spelled; whole = there.whole; took = took-read p (number_of p (at Output k)) (sealed_block p keys (at Output k) attempt (text_of (item_length p.form) (records k))) log entry refl there.took }) longer in
+      (sealed-read j log bytes sealed) longer in
       (λ i. one-given j bytes inside here.spelled here.whole gave i ++ rest i)
       ∙ ap (λ k. records j ++ flat_map records (range_with_len k (length given))) (sym (add-one j))
+
+  -- what both scans forward
+  pub forwarded-latest : {V : Type 0} (told : V → Option (List (List ℕ))) (faults : V → ℕ) (key drops : List ℕ) (t : ℕ) (old new : Recorded V) (sent : List ℕ)
+      → HasForwarded told faults p keys attempt key drops t old new sent → IsFaithful p new.log → AreSealed p keys attempt records old.log
+      → sent ≡ concat (forward p.form key drops t (flat_map records (below p.b)))
+  forwarded-latest told faults key drops t old new sent done faithful sealed =
+      let whole : IsFaithful p (old.log ++ (carried_from p attempt 0 done.first ++ carried_from p attempt 0 done.second)) = subst (IsFaithful p) done.log faithful in
+      let parted : IsFaithful p ((old.log ++ carried_from p attempt 0 done.first) ++ carried_from p attempt 0 done.second) =
+      subst (IsFaithful p) (sym (append_assoc old.log (carried_from p attempt 0 done.first) (carried_from p attempt 0 done.second))) whole in
+      let front = faithful-front p (old.log ++ carried_from p attempt 0 done.first) (carried_from p attempt 0 done.second) parted in
+      let one : items_from p keys attempt 0 done.first ≡ flat_map records (below p.b) =
+      given-faithful 0 old.log done.first (omega (arith, done.whole_first)) sealed front ∙ ap (λ n. flat_map records (below n)) done.whole_first in
+      let two : items_from p keys attempt 0 done.second ≡ flat_map records (below p.b) =
+      given-faithful 0 (old.log ++ carried_from p attempt 0 done.first) done.second (omega (arith, done.whole_second)) (sealed-scan 0 old.log done.first sealed) parted
+      ∙ ap (λ n. flat_map records (below n)) done.whole_second in
+      done.sent
+      ∙ (λ i. concat (sent_from p.form (kept_at (drops_in key drops) t (entries p.form key (one i))) 0 (two i)))
+      ∙ ap concat (sent-forwarded p.form key (drops_in key drops) t (flat_map records (below p.b)))

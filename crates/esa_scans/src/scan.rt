@@ -6,6 +6,7 @@ ghost use Rattle.esa_crowds.specs.Entries.{entries};
 ghost use Rattle.esa_crowds.specs.Kept.{sent_from};
 ghost use Rattle.esa_hmac.specs.Mac.{StandsFor};
 ghost use Rattle.esa_params.specs.Form.{inner_length};
+ghost use Rattle.esa_params.specs.Sizes.{ArePlanned};
 ghost use Rattle.esa_params.specs.Slots.{IsPlanned, block_length};
 ghost use Rattle.esa_params.specs.declared.slot.Slot.{Slot};
 ghost use Rattle.esa_spec.specs.Traces.{scan};
@@ -44,6 +45,7 @@ pub(crate) fn gather<V: Device>(
         × HasRead V.told V.faults plan.now keys.now attempt given recorder.old recorder.new
         × ((key : List ℕ) → StandsFor codes.now key [] → table.new.entries ≡ entries plan.now.form key (items_from plan.now keys.now attempt 0 given))) }
     ensures fault { OnErr result ((j : ℕ) × FailsAt V.told V.faults plan.now keys.now attempt [] j recorder.old recorder.new result) }
+    ensures limits { ArePlanned plan.now }
     ensures form { table.new.form ≡ table.old.form }
     ensures records { table.new.room ≡ table.old.room }
 {
@@ -119,6 +121,7 @@ pub(crate) fn both<V: Device>(
         → HasForwarded V.told V.faults plan.now keys.now attempt key drops.now t recorder.old recorder.new sent.new.bytes) }
     ensures fault { OnErr result ((j : ℕ) × (FailsAt V.told V.faults plan.now keys.now attempt [] j recorder.old recorder.new result
         ⊎ FailsAt V.told V.faults plan.now keys.now attempt (scan plan.now attempt) j recorder.old recorder.new result)) }
+    ensures limits { ArePlanned plan.now }
     ensures form { table.new.form ≡ table.old.form }
     ensures records { table.new.room ≡ table.old.room }
     ensures whole { sent.new.room ≡ sent.old.room }

@@ -1,10 +1,16 @@
 //! The tables of a threshold, and its two scans.
 
 ghost use Rattle.std.specs.Prelude.{◌≡◌, ◌+◌, ◌*◌, ◌≤◌, ◌⊎◌, ℕ, List, [], Some, IfOk, OnOk, OnErr};
+ghost use Rattle.std.specs.List.{concat, flat_map};
+ghost use Rattle.esa_crowds.specs.Kept.{forward as forwards};
+ghost use Rattle.esa_device.specs.Logs.{IsFaithful};
 ghost use Rattle.esa_hmac.specs.Mac.{StandsFor};
+ghost use Rattle.esa_params.specs.Sizes.{ArePlanned, below};
+ghost use Rattle.esa_report.specs.declared.item.Item.{Item};
 ghost use Rattle.esa_spec.specs.Traces.{scan};
 ghost use Rattle.esa_scans.specs.Forwarded.{HasForwarded};
 ghost use Rattle.esa_scans.specs.Scans.{FailsAt};
+ghost use Rattle.esa_scans.specs.Sealed.{AreSealed};
 
 use crate::scan::both;
 use crate::sent::Sent;
@@ -87,6 +93,7 @@ impl Tables {
             → HasForwarded V.told V.faults self.old.plan keys.now attempt key drops.now t recorder.old recorder.new self.new.forward) }
         ensures fault { OnErr result ((j : ℕ) × (FailsAt V.told V.faults self.old.plan keys.now attempt [] j recorder.old recorder.new result
             ⊎ FailsAt V.told V.faults self.old.plan keys.now attempt (scan self.old.plan attempt) j recorder.old recorder.new result)) }
+        ensures limits { ArePlanned self.old.plan }
         ensures plan { self.new.plan ≡ self.old.plan }
     {
         both(
@@ -122,6 +129,10 @@ pub fn threshold<V: Device>(
     requires ready { recorder.old.plan ≡ Some plan.now }
     requires room { 2 * plan.now.b ≤ recorder.old.room }
     ensures forwarded { OnOk result (HasForwarded V.told V.faults plan.now run.now attempt dropkey.now drops.now t recorder.old recorder.new tables.new.forward) }
+
+    // Where the log is faithful and the blocks of the output were sealed with records last, these are forwarded.
+    ensures latest { (records : ℕ → List Item) → IsFaithful plan.now recorder.new.log → AreSealed plan.now run.now attempt records recorder.old.log
+        → OnOk result (tables.new.forward ≡ concat (forwards plan.now.form dropkey.now drops.now t (flat_map records (below plan.now.b)))) }
 
     // It ends with a read of the first scan, or with one of the second.
     ensures fault { OnErr result ((j : ℕ) × (FailsAt V.told V.faults plan.now run.now attempt [] j recorder.old recorder.new result
