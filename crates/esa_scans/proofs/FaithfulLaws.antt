@@ -1,5 +1,5 @@
 -- What a faithful device gives of the output is what its blocks were sealed with.
-use Rattle.std.proofs.Common.{◌≡◌, ℕ, zero, suc, ◌+◌, ◌*◌, ◌^◌, ◌<◌, ◌≤◌, List, [], ◌∷◌, ◌++◌, length, get_or, map, Option, Some, refl, sym, ap, ◌∙◌, subst, arith, append_assoc, append-nil, add-one}
+use Rattle.std.proofs.Common.{◌≡◌, ℕ, zero, suc, ◌+◌, ◌^◌, ◌<◌, ◌≤◌, List, [], ◌∷◌, ◌++◌, length, get_or, map, Option, Some, refl, sym, ap, ◌∙◌, subst, arith, append_assoc, append-nil, add-one}
 use Rattle.std.specs.List.{concat, flat_map, range_with_len}
 use Rattle.std.specs.Prelude.{All, slice_get, unwrap_or}
 use Rattle.esa_crowds.specs.Entries.{entries}
@@ -9,7 +9,7 @@ use Rattle.esa_crowds.proofs.PlaceLaws.{picked-all}
 use Rattle.esa_crowds.proofs.SentLaws.{sent-forwarded}
 use Rattle.esa_device.specs.Recording.{Recorded}
 use Rattle.esa_scans.specs.Forwarded.{HasForwarded}
-use Rattle.esa_device.specs.Logs.{Carried, IsFaithful, Took}
+use Rattle.esa_device.specs.Logs.{Carried, IsFaithful}
 use Rattle.esa_device.proofs.LogLaws.{faithful-front, faithful-last, took-read}
 use Rattle.esa_envelope.specs.declared.keys.Keys.{Keys}
 use Rattle.esa_params.specs.Sizes.{ArePlanned, Sizes, below, size}

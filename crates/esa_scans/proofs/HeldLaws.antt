@@ -1,5 +1,5 @@
 -- What the threshold sees of an item's bytes, and of items one after another.
-use Rattle.std.proofs.Common.{◌≡◌, ℕ, zero, suc, ◌+◌, ◌*◌, ◌<◌, ◌≤◌, Bool, true, false, cond, slice_index, List, [], ◌∷◌, ◌++◌, length, take, drop, map, Option, Some, None, refl, sym, ap, ◌∙◌, arith, inl, inr, append_assoc, append-nil, length-take, length-drop, length-append}
+use Rattle.std.proofs.Common.{◌≡◌, ℕ, suc, ◌+◌, ◌*◌, ◌<◌, ◌≤◌, Bool, true, false, cond, slice_index, List, [], ◌∷◌, ◌++◌, length, take, drop, Option, Some, None, refl, sym, ap, ◌∙◌, arith, inl, inr, append_assoc, append-nil, length-take, length-drop, length-append}
 use Rattle.std.specs.List.{cons_option, concat}
 use Rattle.std.specs.Option.{option_map}
 use Rattle.std.specs.Prelude.{◌-◌, replicate, unwrap_or, if◌then◌else◌}
@@ -14,7 +14,7 @@ use Rattle.esa_params.specs.Slots.{item_length}
 use Rattle.esa_report.specs.declared.item.Item.{Item}
 use Rattle.esa_report.specs.declared.item.Kind.{Kind}
 use Rattle.esa_report.specs.declared.item.Kind.TheVariants.{Dummy, Real, Malformed}
-use Rattle.esa_report.specs.Item.{IsItemLength, dummy_item, full_body, is_well_formed, item_in, item_of, kind_held, kind_in}
+use Rattle.esa_report.specs.Item.{IsItemLength, dummy_item, full_body, item_in, item_of, kind_in}
 use Rattle.esa_report.specs.Zero.{is_zero}
 use Rattle.esa_crowds.specs.Entries.{Entry, crowd_in, entries_from, entry_in, if_real, inner_in}
 use Rattle.esa_crowds.specs.Kept.{sent_from}

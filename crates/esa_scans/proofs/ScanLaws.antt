@@ -1,5 +1,5 @@
 -- What a scan has read once it has read one block more.
-use Rattle.std.proofs.Common.{◌≡◌, ℕ, zero, suc, ◌+◌, ◌-◌, ◌*◌, ◌<◌, ◌≤◌, Bool, true, false, List, [], ◌∷◌, ◌++◌, length, map, Option, Some, None, Result, Ok, Err, refl, sym, ap, ◌∙◌, subst, arith, append_assoc, length-append}
+use Rattle.std.proofs.Common.{◌≡◌, ℕ, suc, ◌+◌, ◌*◌, ◌<◌, ◌≤◌, Bool, true, false, List, [], ◌∷◌, ◌++◌, length, Option, Some, None, Ok, Err, refl, sym, ap, ◌∙◌, subst, arith, append_assoc, length-append}
 use Rattle.std.specs.List.{concat, cons_option}
 use Rattle.std.specs.Option.{option_map_or}
 use Rattle.std.specs.Prelude.{if◌then◌else◌, unwrap_or}
@@ -13,17 +13,17 @@ use Rattle.esa_params.specs.Form.{inner_length}
 use Rattle.esa_device.specs.Logs.{Carried}
 use Rattle.esa_device.specs.Recording.{Recorded}
 use Rattle.esa_envelope.specs.declared.keys.Keys.{Keys}
-use Rattle.esa_params.specs.Sizes.{Sizes, below, first, size}
+use Rattle.esa_params.specs.Sizes.{Sizes, first, size}
 use Rattle.esa_params.specs.Slots.{at, item_length, number_of}
 use Rattle.esa_params.specs.declared.slot.Access.{Access}
 use Rattle.esa_params.specs.declared.slot.Op.{Op}
 use Rattle.esa_params.specs.declared.slot.Region.TheVariants.{Output}
 use Rattle.esa_report.specs.declared.item.Item.{Item}
 use Rattle.esa_spec.specs.Traces.{read_output, scan}
-use Rattle.esa_vault.specs.Seals.{is_text_of, opens, text_in}
+use Rattle.esa_vault.specs.Seals.{opens}
 use Rattle.esa_vault.specs.Traffic.{IsRead, ReadAnswer}
 use Rattle.esa_vault.specs.declared.fault.VaultFault.{VaultFault}
-use Rattle.esa_scans.specs.Held.{is_marked, items_in}
+use Rattle.esa_scans.specs.Held.{is_marked}
 use Rattle.esa_scans.specs.Scans.{AreOpen, FailsAt, HasRead, carried_from, is_open, items_from, items_of, reads, text_given}
 use Rattle.esa_scans.proofs.HeldLaws.{entries-append, length-items, sent-joined, sent_few}
 
@@ -92,44 +92,44 @@ module _ (p : Sizes) (keys : Keys) (attempt : ℕ) where
   module _ {V : Type 0} (told : V → Option (List (List ℕ))) (faults : V → ℕ) (last_call : V → Option (Op × ℕ)) (old mid new : Recorded V) (given : List (List ℕ)) (bytes : List ℕ) (j : ℕ)
       (here : length given ≡ j) (before : HasRead told faults p keys attempt given old mid)
     where
-    trace-more : new.trace ≡ mid.trace ++ read_output p attempt j ∷ [] → new.trace ≡ old.trace ++ reads p attempt (j + 1)
-    trace-more now =
-        now
-        ∙ ap (λ (accesses : List Access). accesses ++ read_output p attempt j ∷ []) before.trace
-        ∙ append_assoc old.trace (reads p attempt (length given)) (read_output p attempt j ∷ [])
-        ∙ ap (λ n. old.trace ++ (reads p attempt n ++ read_output p attempt j ∷ [])) here
-        ∙ ap (λ (accesses : List Access). old.trace ++ accesses) (sym (reads-more j))
+      trace-more : new.trace ≡ mid.trace ++ read_output p attempt j ∷ [] → new.trace ≡ old.trace ++ reads p attempt (j + 1)
+      trace-more now =
+          now
+          ∙ ap (λ (accesses : List Access). accesses ++ read_output p attempt j ∷ []) before.trace
+          ∙ append_assoc old.trace (reads p attempt (length given)) (read_output p attempt j ∷ [])
+          ∙ ap (λ n. old.trace ++ (reads p attempt n ++ read_output p attempt j ∷ [])) here
+          ∙ ap (λ (accesses : List Access). old.trace ++ accesses) (sym (reads-more j))
 
-    -- one block more was read
-    pub read-more : (done : Unit {0}) → IsRead {V = V} {T = Unit {0}} told faults last_call p (at Output j) attempt (opens p keys (at Output j) attempt (size p j)) bytes mid new (Ok done)
-        → HasRead told faults p keys attempt (given ++ bytes ∷ []) old new
-    read-more done read =
-        let long : length (given ++ bytes ∷ []) ≡ j + 1 = length-append given (bytes ∷ []) ∙ ap (λ n. n + 1) here in
-        let zero_on : 0 + length given ≡ j = omega (arith, here) in
-        record {
-          trace = trace-more read.recorded.trace ∙ ap (λ n. old.trace ++ reads p attempt n) (sym long);
-          log = read.recorded.log
-              ∙ ap (λ (log : List Carried). log ++ record { access = read_output p attempt j; bytes = Some bytes } ∷ []) before.log
-              ∙ append_assoc old.log (carried_from p attempt 0 given) (record { access = read_output p attempt j; bytes = Some bytes } ∷ [])
-              ∙ ap (λ n. old.log ++ (carried_from p attempt 0 given ++ record { access = read_output p attempt n; bytes = Some bytes } ∷ [])) (sym zero_on)
-              ∙ ap (λ (log : List Carried). old.log ++ log) (sym (carried-push 0 given bytes));
-          room = omega (arith, before.room, read.recorded.room, long, here);
-          plan = read.recorded.plan ∙ before.plan;
-          stays = read.stays ∙ before.stays;
-          calm = read.answer.1 ∙ before.calm;
-          opened = open-push 0 given bytes before.opened (subst (λ k. is_open p keys attempt k bytes) (sym zero_on) (ap (opens p keys (at Output j) attempt (size p j)) (sym read.given) ∙ read.answer.0));
-        }
+      -- one block more was read
+      pub read-more : (done : Unit {0}) → IsRead {V = V} {T = Unit {0}} told faults last_call p (at Output j) attempt (opens p keys (at Output j) attempt (size p j)) bytes mid new (Ok done)
+          → HasRead told faults p keys attempt (given ++ bytes ∷ []) old new
+      read-more done read =
+          let long : length (given ++ bytes ∷ []) ≡ j + 1 = length-append given (bytes ∷ []) ∙ ap (λ n. n + 1) here in
+          let zero_on : 0 + length given ≡ j = omega (arith, here) in
+          record {
+            trace = trace-more read.recorded.trace ∙ ap (λ n. old.trace ++ reads p attempt n) (sym long);
+            log = read.recorded.log
+                ∙ ap (λ (log : List Carried). log ++ record { access = read_output p attempt j; bytes = Some bytes } ∷ []) before.log
+                ∙ append_assoc old.log (carried_from p attempt 0 given) (record { access = read_output p attempt j; bytes = Some bytes } ∷ [])
+                ∙ ap (λ n. old.log ++ (carried_from p attempt 0 given ++ record { access = read_output p attempt n; bytes = Some bytes } ∷ [])) (sym zero_on)
+                ∙ ap (λ (log : List Carried). old.log ++ log) (sym (carried-push 0 given bytes));
+            room = omega (arith, before.room, read.recorded.room, long, here);
+            plan = read.recorded.plan ∙ before.plan;
+            stays = read.stays ∙ before.stays;
+            calm = read.answer.1 ∙ before.calm;
+            opened = open-push 0 given bytes before.opened (subst (λ k. is_open p keys attempt k bytes) (sym zero_on) (ap (opens p keys (at Output j) attempt (size p j)) (sym read.given) ∙ read.answer.0));
+          }
 
-    -- the read failed
-    pub read-failed : (fault : VaultFault) → j < p.b → IsRead {V = V} {T = Unit {0}} told faults last_call p (at Output j) attempt (opens p keys (at Output j) attempt (size p j)) bytes mid new (Err fault)
-        → FailsAt {V = V} {T = Unit {0}} told faults p keys attempt [] j old new (Err fault)
-    read-failed fault inside read = record {
-      inside = inside;
-      trace = trace-more read.recorded.trace;
-      plan = read.recorded.plan ∙ before.plan;
-      stays = read.stays ∙ before.stays;
-      answer = subst (λ n. ReadAnswer {T = Unit {0}} (number_of p (at Output j)) n (faults new.device) (opens p keys (at Output j) attempt (size p j) new.last) (Err fault)) before.calm read.answer;
-    }
+      -- the read failed
+      pub read-failed : (fault : VaultFault) → j < p.b → IsRead {V = V} {T = Unit {0}} told faults last_call p (at Output j) attempt (opens p keys (at Output j) attempt (size p j)) bytes mid new (Err fault)
+          → FailsAt {V = V} {T = Unit {0}} told faults p keys attempt [] j old new (Err fault)
+      read-failed fault inside read = record {
+        inside = inside;
+        trace = trace-more read.recorded.trace;
+        plan = read.recorded.plan ∙ before.plan;
+        stays = read.stays ∙ before.stays;
+        answer = subst (λ n. ReadAnswer {T = Unit {0}} (number_of p (at Output j)) n (faults new.device) (opens p keys (at Output j) attempt (size p j) new.last) (Err fault)) before.calm read.answer;
+      }
 
 -- the entries of the items of one block more
 pub entries-more : (p : Sizes) (keys : Keys) (attempt : ℕ) (key : List ℕ) (given : List (List ℕ)) (bytes : List ℕ) (j : ℕ) (old new : List Entry) → length given ≡ j
@@ -175,44 +175,44 @@ sent_alike form kept other high q (item ∷ items) same fits =
 module _ {V : Type 0} (told : V → Option (List (List ℕ))) (faults : V → ℕ) (p : Sizes) (keys : Keys) (attempt : ℕ) (old mid new : Recorded V) (one : List (List ℕ))
     (all : length one ≡ p.b) (before : HasRead told faults p keys attempt one old mid)
   where
-  -- the second scan failed
-  pub failed-later : (fault : VaultFault) (j : ℕ) → FailsAt {V = V} {T = Unit {0}} told faults p keys attempt [] j mid new (Err fault)
-      → FailsAt {V = V} {T = Unit {0}} told faults p keys attempt (scan p attempt) j old new (Err fault)
-  failed-later fault j failed = record {
-    inside = failed.inside;
-    trace = failed.trace
-        ∙ ap (λ (accesses : List Access). accesses ++ reads p attempt (j + 1)) (before.trace ∙ ap (λ n. old.trace ++ reads p attempt n) all)
-        ∙ append_assoc old.trace (scan p attempt) (reads p attempt (j + 1));
-    plan = failed.plan ∙ before.plan;
-    stays = failed.stays ∙ before.stays;
-    answer = subst (λ n. ReadAnswer {T = Unit {0}} (number_of p (at Output j)) n (faults new.device) (opens p keys (at Output j) attempt (size p j) new.last) (Err fault)) before.calm failed.answer;
-  }
+    -- the second scan failed
+    pub failed-later : (fault : VaultFault) (j : ℕ) → FailsAt {V = V} {T = Unit {0}} told faults p keys attempt [] j mid new (Err fault)
+        → FailsAt {V = V} {T = Unit {0}} told faults p keys attempt (scan p attempt) j old new (Err fault)
+    failed-later fault j failed = record {
+      inside = failed.inside;
+      trace = failed.trace
+          ∙ ap (λ (accesses : List Access). accesses ++ reads p attempt (j + 1)) (before.trace ∙ ap (λ n. old.trace ++ reads p attempt n) all)
+          ∙ append_assoc old.trace (scan p attempt) (reads p attempt (j + 1));
+      plan = failed.plan ∙ before.plan;
+      stays = failed.stays ∙ before.stays;
+      answer = subst (λ n. ReadAnswer {T = Unit {0}} (number_of p (at Output j)) n (faults new.device) (opens p keys (at Output j) attempt (size p j) new.last) (Err fault)) before.calm failed.answer;
+    }
 
-  -- both scans are whole
-  pub both-read : (two : List (List ℕ)) (key drops : List ℕ) (t : ℕ) (marks : List Bool) (seen : List Entry) (sent : List ℕ) → length two ≡ p.b → HasRead told faults p keys attempt two mid new
-      → seen ≡ entries p.form key (items_from p keys attempt 0 one)
-      → ((position : ℕ) → position < p.n → is_marked marks position ≡ kept_at (drops_in key drops) t seen position)
-      → sent ≡ concat (sent_from p.form (is_marked marks) 0 (items_from p keys attempt 0 two))
-      → HasForwarded told faults p keys attempt key drops t old new sent
-  both-read two key drops t marks seen sent whole after gathered marked is =
-      let fits : 0 + length (items_from p keys attempt 0 two) ≤ p.n = omega (arith, count-first p keys attempt two) in
-      record {
-        first = one;
-        second = two;
-        whole_first = all;
-        whole_second = whole;
-        trace = after.trace ∙ ap (λ n. mid.trace ++ reads p attempt n) whole
-            ∙ ap (λ (accesses : List Access). accesses ++ scan p attempt) (before.trace ∙ ap (λ n. old.trace ++ reads p attempt n) all)
-            ∙ append_assoc old.trace (scan p attempt) (scan p attempt);
-        log = after.log ∙ ap (λ (log : List Carried). log ++ carried_from p attempt 0 two) before.log
-            ∙ append_assoc old.log (carried_from p attempt 0 one) (carried_from p attempt 0 two);
-        room = omega (arith, before.room, after.room, all, whole);
-        plan = after.plan ∙ before.plan;
-        stays = after.stays ∙ before.stays;
-        calm = after.calm ∙ before.calm;
-        opened_first = before.opened;
-        opened_second = after.opened;
-        sent = is
-            ∙ ap concat (sent_alike p.form (is_marked marks) (kept_at (drops_in key drops) t seen) p.n 0 (items_from p keys attempt 0 two) marked fits)
-            ∙ ap (λ (seen : List Entry). concat (sent_from p.form (kept_at (drops_in key drops) t seen) 0 (items_from p keys attempt 0 two))) gathered;
-      }
+    -- both scans are whole
+    pub both-read : (two : List (List ℕ)) (key drops : List ℕ) (t : ℕ) (marks : List Bool) (seen : List Entry) (sent : List ℕ) → length two ≡ p.b → HasRead told faults p keys attempt two mid new
+        → seen ≡ entries p.form key (items_from p keys attempt 0 one)
+        → ((position : ℕ) → position < p.n → is_marked marks position ≡ kept_at (drops_in key drops) t seen position)
+        → sent ≡ concat (sent_from p.form (is_marked marks) 0 (items_from p keys attempt 0 two))
+        → HasForwarded told faults p keys attempt key drops t old new sent
+    both-read two key drops t marks seen sent whole after gathered marked is =
+        let fits : 0 + length (items_from p keys attempt 0 two) ≤ p.n = omega (arith, count-first p keys attempt two) in
+        record {
+          first = one;
+          second = two;
+          whole_first = all;
+          whole_second = whole;
+          trace = after.trace ∙ ap (λ n. mid.trace ++ reads p attempt n) whole
+              ∙ ap (λ (accesses : List Access). accesses ++ scan p attempt) (before.trace ∙ ap (λ n. old.trace ++ reads p attempt n) all)
+              ∙ append_assoc old.trace (scan p attempt) (scan p attempt);
+          log = after.log ∙ ap (λ (log : List Carried). log ++ carried_from p attempt 0 two) before.log
+              ∙ append_assoc old.log (carried_from p attempt 0 one) (carried_from p attempt 0 two);
+          room = omega (arith, before.room, after.room, all, whole);
+          plan = after.plan ∙ before.plan;
+          stays = after.stays ∙ before.stays;
+          calm = after.calm ∙ before.calm;
+          opened_first = before.opened;
+          opened_second = after.opened;
+          sent = is
+              ∙ ap concat (sent_alike p.form (is_marked marks) (kept_at (drops_in key drops) t seen) p.n 0 (items_from p keys attempt 0 two) marked fits)
+              ∙ ap (λ (seen : List Entry). concat (sent_from p.form (kept_at (drops_in key drops) t seen) 0 (items_from p keys attempt 0 two))) gathered;
+        }

@@ -1,5 +1,5 @@
 -- What is forwarded.
-use Rattle.std.specs.Prelude.{◌≡◌, ◌≤◌, ◌*◌, ℕ, ◌+◌, List, ◌++◌, length, Option}
+use Rattle.std.specs.Prelude.{◌≡◌, ◌*◌, ℕ, ◌+◌, List, ◌++◌, length, Option}
 use Rattle.std.specs.List.{concat}
 use Rattle.esa_crowds.specs.Entries.{entries}
 use Rattle.esa_crowds.specs.Kept.{drops_in, sent_from}

@@ -1,9 +1,5 @@
 -- The scans of a shuffler's output: what they read, what the blocks hold, and how they end.
-use Rattle.std.specs.Prelude.{◌≡◌, ℕ, suc, ◌+◌, ◌<◌, ◌⊎◌, true, List, [], ◌∷◌, ◌++◌, length, map, Option, Some, Result, unwrap_or}
-use Rattle.std.specs.List.{concat}
-use Rattle.esa_crowds.specs.Entries.{entries}
-use Rattle.esa_crowds.specs.Kept.{drops_in, sent_from}
-use Rattle.esa_crowds.specs.Rows.{kept_at}
+use Rattle.std.specs.Prelude.{◌≡◌, ℕ, suc, ◌+◌, ◌<◌, true, List, [], ◌∷◌, ◌++◌, length, map, Option, Some, Result, unwrap_or}
 use Rattle.esa_device.specs.Logs.{Carried}
 use Rattle.esa_device.specs.Recording.{Recorded}
 use Rattle.esa_envelope.specs.declared.keys.Keys.{Keys}
@@ -12,7 +8,7 @@ use Rattle.esa_params.specs.Slots.{at, item_length, number_of}
 use Rattle.esa_params.specs.declared.slot.Access.{Access}
 use Rattle.esa_params.specs.declared.slot.Region.TheVariants.{Output}
 use Rattle.esa_report.specs.declared.item.Item.{Item}
-use Rattle.esa_spec.specs.Traces.{read_output, scan}
+use Rattle.esa_spec.specs.Traces.{read_output}
 use Rattle.esa_vault.specs.Seals.{opens, text_in}
 use Rattle.esa_vault.specs.Traffic.{ReadAnswer}
 use Rattle.esa_vault.specs.declared.fault.VaultFault.{VaultFault}

@@ -13,4 +13,3 @@ mod tables;
 mod text;
 
 pub use tables::{Tables, threshold};
-

@@ -126,15 +126,11 @@ pub(crate) fn both<V: Device>(
     ensures records { table.new.room ≡ table.old.room }
     ensures whole { sent.new.room ≡ sent.old.room }
 {
-    if let Err(fault) = gather(
-        recorder, plan, keys, attempt, codes, sealed, plain, table,
-    ) {
+    if let Err(fault) = gather(recorder, plan, keys, attempt, codes, sealed, plain, table) {
         return Err(fault);
     }
     table.decide(codes, drops, t);
-    if let Err(fault) = forward(
-        recorder, plan, keys, attempt, table, sealed, plain, sent,
-    ) {
+    if let Err(fault) = forward(recorder, plan, keys, attempt, table, sealed, plain, sent) {
         return Err(fault);
     }
     Ok(())

@@ -1,7 +1,6 @@
-use Rattle.std.proofs.Common.{◌≡◌, ◌+◌, ◌<◌, List, ℕ, [], ◌∷◌, ◌++◌, length, take, sym, ap, ◌∙◌, arith, length-append}
+use Rattle.std.proofs.Common.{◌+◌, ◌<◌, List, ℕ, [], ◌∷◌, ◌++◌, take, ap, ◌∙◌, arith, length-append}
 use Rattle.esa_params.specs.Slots.{at, block_length}
 use Rattle.esa_params.specs.declared.slot.Region.TheVariants.{Output}
-use Rattle.esa_scans.specs.Held.{is_marked}
 use Rattle.esa_scans.proofs.ScanLaws.{entries-more, read-failed, read-more}
 use Rattle.esa_scans.proofs.scan.gather.Goals as goal
 

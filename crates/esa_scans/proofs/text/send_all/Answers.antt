@@ -1,5 +1,4 @@
-use Rattle.std.proofs.Common.{◌≡◌, ◌+◌, length, sym, ap, ◌∙◌, subst, arith}
-use Rattle.std.specs.Prelude.{◌≤◌}
+use Rattle.std.proofs.Common.{◌+◌, ap, ◌∙◌, arith}
 use Rattle.esa_params.specs.Form.{inner_length}
 use Rattle.esa_params.specs.Slots.{item_length}
 use Rattle.esa_scans.specs.Held.{is_marked}
