@@ -1,0 +1,3 @@
+pub mod FaithfulLaws
+pub mod HeldLaws
+pub mod ScanLaws

@@ -1,0 +1,12 @@
+pub use Rattle.esa_crowds.specs.Entries
+pub use Rattle.esa_crowds.specs.Kept
+pub use Rattle.esa_vault.specs.Filled
+pub use Rattle.esa_vault.specs.Seals
+pub use Rattle.esa_vault.specs.Traffic
+pub use Rattle.esa_spec.specs.Traces
+pub mod Forwarded
+pub mod Held
+pub mod Inside
+pub mod Joined
+pub mod Scans
+pub mod Sealed
