@@ -12,7 +12,8 @@ use Rattle.esa_threshold.specs.declared.refused.ForwardRefused.{ForwardRefused}
 use Rattle.esa_threshold.specs.declared.refused.ForwardRefused.TheVariants as forward
 use Rattle.esa_analyser.specs.declared.refused.DbRefused.{DbRefused}
 use Rattle.esa_analyser.specs.declared.refused.DbRefused.TheVariants as database
-use Rattle.esa_job.specs.Word.{command_word, field_word, key_word}
+use Rattle.esa_job.specs.Table.{field_word}
+use Rattle.esa_job.specs.Word.{command_word, key_word}
 use Rattle.esa_refusal.specs.declared.refusal.Refusal.{Refusal}
 use Rattle.esa_refusal.specs.declared.refusal.Refusal.TheVariants as refusal
 use Rattle.esa_refusal.specs.Words.{role_word, param_word}
