@@ -1,6 +1,6 @@
 //! Exchanges with a stash that holds many items.
 
-ghost use Rattle.std.specs.Prelude.{◌≡◌, ◌*◌, ◌<◌, ◌≤◌, All, length, IfOk, OnOk};
+ghost use Rattle.std.specs.Prelude.{◌≡◌, ◌<◌, All, length, IfOk, OnOk};
 ghost use Rattle.esa_stash.specs.Stash.{contents};
 
 use anyhow::{Result, bail, ensure};

@@ -1,6 +1,6 @@
 //! The turnstile: threads that enter again and again, with work inside and outside.
 ghost use Rattle.std.specs.Prelude.{◌≡◌, ◌*◌, ◌+◌, ◌<◌, ◌≤◌, IfOk, length, All};
-ghost use Rattle.esa_turnstile.specs.Passes.{passes_of, tickets_of, opened_of, number_of, IsPassOf, IsNewPass, IsOutside, left_of};
+ghost use Rattle.esa_turnstile.specs.Passes.{passes_of, tickets_of, opened_of, IsPassOf, IsNewPass, IsOutside, left_of};
 ghost use Rattle.esa_turnstile.specs.Rolls.{room_in};
 
 use anyhow::{Result, bail};

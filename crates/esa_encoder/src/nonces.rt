@@ -1,6 +1,6 @@
 //! No two lines that are encoded together share a nonce.
 
-ghost use Rattle.std.specs.Prelude.{◌≡◌, ◌≢◌, ◌≤◌, ℕ, List, length, IsOk};
+ghost use Rattle.std.specs.Prelude.{◌≢◌, ◌≤◌, ℕ, List, length, IsOk};
 ghost use Rattle.esa_bytes.specs.Lines.{text_lines};
 ghost use Rattle.esa_params.specs.declared.form.Form.{Form};
 ghost use Rattle.esa_envelope.specs.declared.keys.Keys.{Keys};

@@ -1,6 +1,6 @@
 //! Coefficients under which a secret has given shares.
 
-ghost use Rattle.std.specs.Prelude.{◌≡◌, ◌≢◌, ◌<◌, ◌+◌, ◌*◌, ℕ, suc, All, length, flat_map, slice_index};
+ghost use Rattle.std.specs.Prelude.{◌≡◌, ◌≢◌, ◌<◌, ◌+◌, ◌*◌, ℕ, All, length, flat_map, slice_index};
 ghost use Rattle.std.specs.Int.RustNames.{bit_xor};
 ghost use Rattle.esa_shares.specs.Field as field;
 ghost use Rattle.esa_shares.specs.Polynomial.{ArePoints, column, evaluated};

@@ -1,8 +1,7 @@
 //! The forward file.
 
-ghost use Rattle.std.specs.Prelude.{◌≡◌, ◌⊎◌, ◌≤◌, ◌^◌, ◌<◌, List, ℕ, length, take, drop, IfOk, MatchResult};
-ghost use Rattle.std.specs.List.{concat};
-ghost use Rattle.esa_header.specs.Header.{header_length, header_bytes};
+ghost use Rattle.std.specs.Prelude.{◌≡◌, ◌⊎◌, ◌<◌, List, ℕ, length, take, drop, IfOk, MatchResult};
+ghost use Rattle.esa_header.specs.Header.{header_length};
 ghost use Rattle.esa_threshold.specs.declared.refused.ForwardRefused.TheVariants.{OutOfMemory};
 ghost use Rattle.esa_threshold.specs.Forward.{forward_front, forward_bytes, CanForward, forwarded_as, IsForwardFile, forward_header_in, forward_in};
 ghost use Rattle.esa_params.specs.declared.form.Form.{Form};

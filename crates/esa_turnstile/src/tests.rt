@@ -1,5 +1,5 @@
 ghost use Rattle.std.specs.Prelude.{◌≡◌, ◌+◌, ◌*◌, ◌<◌, ◌≤◌, IfOk, length, All};
-ghost use Rattle.esa_turnstile.specs.Rolls.{entries_in, room_in};
+ghost use Rattle.esa_turnstile.specs.Rolls.{room_in};
 ghost use Rattle.esa_turnstile.specs.Passes.{passes_of, tickets_of, opened_of, IsPassOf, IsNewPass};
 
 use crate::{Logged, Opened, Pass, Roll, Turnstile, go_round, go_rounds, two_workers, workers};

@@ -1,11 +1,11 @@
 //! How the value is given up.
-ghost use Rattle.std.specs.Prelude.{◌≡◌, ◌≤◌, ◌<◌, ℕ, [], length, All};
+ghost use Rattle.std.specs.Prelude.{◌≡◌, ◌≤◌, ◌<◌, [], length, All};
 ghost use mathlib.Core.List.{IsPrefix};
 ghost use Rattle.esa_turnstile.specs.declared.view.Stage.TheVariants.{Outside};
 ghost use Rattle.esa_turnstile.specs.Entries.{times};
 ghost use Rattle.esa_turnstile.specs.Views.{note_of, joined};
 ghost use Rattle.esa_turnstile.specs.Closing.{Knows, IsSettled};
-ghost use Rattle.esa_turnstile.specs.Passes.{passes_of, tickets_of, opened_of, IsSeatOf, IsPassOf, IsOutside, number_of, seen_of, mark_of, added_of};
+ghost use Rattle.esa_turnstile.specs.Passes.{passes_of, opened_of, IsSeatOf, IsPassOf, IsOutside, number_of, seen_of, mark_of, added_of};
 
 use super::{SLOT, Turnstile};
 use crate::logged::Logged;

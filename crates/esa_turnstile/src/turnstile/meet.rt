@@ -1,5 +1,5 @@
 //! How one pass learns what another has seen.
-ghost use Rattle.std.specs.Prelude.{◌≡◌, ◌+◌, ◌≤◌, [], ◌∷◌, ◌++◌, max};
+ghost use Rattle.std.specs.Prelude.{◌≡◌, [], max};
 ghost use mathlib.Core.List.{IsPrefix};
 ghost use Rattle.esa_turnstile.specs.declared.view.Stage.TheVariants.{Outside};
 ghost use Rattle.esa_turnstile.specs.Views.{joined, note_of};
