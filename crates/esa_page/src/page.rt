@@ -1,9 +1,9 @@
 //! The page.
 
-ghost use Rattle.std.specs.Prelude.{◌≡◌, ◌+◌, ◌≤◌, ◌++◌, List, [], ℕ, Option, length, IfOk, OnOk, OnErr};
+ghost use Rattle.std.specs.Prelude.{◌≡◌, ◌+◌, ◌≤◌, ◌++◌, ◌∷◌, List, [], ℕ, Option, length, IfOk, OnOk, OnErr};
 ghost use Rattle.esa_outside.specs.Files.{Files};
 ghost use Rattle.esa_outside.specs.Cause.{HasCause};
-ghost use Rattle.esa_outside.specs.Heard.{Event};
+ghost use Rattle.esa_outside.specs.Heard.{Event, started as file_started, after};
 ghost use Rattle.esa_page.specs.Underway.{IsUnderway, IsWhole, IsLeft};
 ghost use Rattle.esa_page.specs.Writing.{IsWriting, HasWritten, HasBroken};
 
@@ -105,6 +105,7 @@ impl Page {
         ensures started { IfOk result (λ page. IsUnderway (K.told cabinet.old) name.now [] page (K.told cabinet.new)) }
         ensures heard { IfOk result (λ page. IsWriting (K.heard cabinet.old) name.now [] page (K.heard cabinet.new)) }
         ensures heard_broken { OnErr result (HasBroken (K.heard cabinet.old) name.now [] (K.heard cabinet.new)) }
+        ensures heard_start { K.heard cabinet.new ≡ after (K.heard cabinet.old) (λ _. file_started name.now ∷ []) result }
         ensures failed { OnErr result (IsLeft (K.told cabinet.old) name.now [] (K.told cabinet.new)) }
         ensures cause { HasCause (K.faults cabinet.old) (K.faults cabinet.new) ⊥ result }
     {
