@@ -128,6 +128,11 @@ impl Records for Batch {
         self.envelopes.form().envelope()
     }
 
+    fn told_as_counted(&self) {
+        // What is read is known to be a batch.
+        let _epoch = self.epoch;
+    }
+
     fn records(&mut self, first: u32, out: &mut [u8]) -> Result<(), Failed> {
         let at = first as usize * self.envelopes.form().envelope() as usize;
         out.copy_from_slice(&self.envelopes.bytes()[at..at + out.len()]);

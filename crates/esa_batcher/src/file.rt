@@ -70,6 +70,8 @@ impl<'a, 'n, K: Cabinet> Records for BatchFile<'a, 'n, K> {
         self.size
     }
 
+    fn told_as_counted(&self) {}
+
     fn records(&mut self, first: u32, out: &mut [u8]) -> Result<(), Failed> {
         if out.len() == 0 {
             return Ok(());

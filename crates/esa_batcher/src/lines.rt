@@ -8,7 +8,7 @@ ghost use Rattle.esa_batcher.specs.Submitted.{joined_to, lines_in, submitted};
 
 use crate::batcher::Batcher;
 use crate::refused::AddRefused;
-use esa_line::{line_count, split_line};
+use esa_bytes::{line_count, split_line};
 use esa_params::{Form, MOST_RECORDS};
 use std::alloc::{AllocError, Global};
 

@@ -38,6 +38,7 @@ fn part_fall<R: Records>(
     ensures buffer { length buffer.new ≡ length buffer.old }
     ensures cause { HasCause (R.faults batch.old) (R.faults batch.new) ⊥ result }
 {
+    batch.told_as_counted();
     let size = batch.size() as usize;
     let (part, _) = buffer.split_at_mut(number as usize * size);
     batch.records(first, part)?;
@@ -55,6 +56,7 @@ pub(crate) fn scan_order<R: Records>(
     ensures grounds { R.grounds batch.new ≡ R.grounds batch.old }
     ensures cause { HasCause (R.faults batch.old) (R.faults batch.new) ⊥ result }
 {
+    batch.told_as_counted();
     let count = batch.count();
     let room = buffer.len() / batch.size() as usize;
     let mut first = 0;

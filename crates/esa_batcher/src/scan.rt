@@ -78,13 +78,6 @@ impl From<HeaderRefused> for ScanRefused {
     }
 }
 
-/// How many bytes of a file of `have` bytes its header may take.
-fn front_length(have: u64) -> usize
-    ensures { result ≡ min 15 have }
-{
-    if have < 15 { have as usize } else { 15 }
-}
-
 /// The header of a file of `have` bytes.
 fn scan_header<K: Cabinet>(
     cabinet: &mut K,
@@ -101,7 +94,7 @@ fn scan_header<K: Cabinet>(
     ensures buffer { length buffer.new ≡ length buffer.old }
     ensures memory { result ≡ Err (refusal.Grammar OutOfMemory) → ⊥ }
 {
-    let (part, _) = buffer.split_at_mut(front_length(have));
+    let (part, _) = buffer.split_at_mut(have.min(15) as usize);
     cabinet.read_at(name, 0, part)?;
     Ok(read_header(FileKind::Batch, part, have)?)
 }

@@ -1,11 +1,13 @@
--- The first line of a text, and the text after it.
-use Rattle.std.proofs.Common.{◌≡◌, ◌≢◌, ℕ, ◌+◌, ◌-◌, ◌<◌, ◌≤◌, suc, not, ltb, Some, None, List, [], ◌∷◌, ◌++◌, length, take, drop, get_or, refl, sym, ap, ◌∙◌, arith, inl, inr, length-drop}
-use Rattle.std.specs.Prelude.{slice_range, All}
-use Rattle.std.specs.List.{position, position_or_len, before_first, after_first, onto_first}
-use Rattle.std.proofs.lemmas.Bool.{cases_Bool, cases_lt, cond-true, lt-ltb, eqb-true, eqb-false}
-use Rattle.std.proofs.lemmas.List.{drop-drop, drop_all, get_or-take, get_or-drop, length-take-le}
-use Rattle.std.proofs.lemmas.List.Sums.{fails_before_first, passes_at_first, prefix_len-le-length}
-use Rattle.esa_bytes.specs.Lines.{IsLineAt, is_newline, text_lines}
+-- The first line of a text, and the text behind it.
+use Rattle.std.proofs.Common.{◌≡◌, ◌≢◌, ℕ, ◌+◌, ◌-◌, ◌<◌, ◌≤◌, suc, not, false, Option, Some, None, unwrap_or, List, [], ◌∷◌, ◌++◌, length, take, drop, get_or, refl, sym, ap, ◌∙◌, arith, inl, inr}
+use Rattle.std.specs.Prelude.{◌==◌, All}
+use Rattle.std.specs.List.{position_or_len, before_first, after_first, onto_first}
+use Rattle.std.proofs.lemmas.Bool.{cases_Bool, eqb-true, eqb-false, false_from_ne_true}
+use Rattle.std.proofs.lemmas.Bool.Decides.{nat_tests}
+use Rattle.std.proofs.lemmas.List.{get_or-take, length-take-le, take_rest, take_all, drop_all}
+use Rattle.std.proofs.lemmas.List.Sums.{fails_before_first, passes_at_first, prefix_len-le-length, position_or_len_is, split_at_first}
+use Rattle.memchr.specs.Find.{IsFirstByte}
+use Rattle.esa_bytes.specs.Lines.{IsFirstLine, is_newline, text_lines}
 
 -- a byte before a first line of n bytes
 longer_first : (byte : ℕ) (rest : List ℕ) (n : ℕ)
@@ -45,74 +47,60 @@ text_lines-line (byte ∷ line) rest plain =
       | inr goes_on ↦ rw (goes_on, more)
     ]
 
--- the line from a place on ends before a newline: that line, and the text behind the newline
-pub text_lines-ends : (text : List ℕ) (at end : ℕ) → at < length text
-    → end ≡ at + position_or_len is_newline (drop at text)
-    → text_lines (drop at text) ≡ slice_range text at end ∷ text_lines (drop (end + 1) text)
-text_lines-ends text at end inside e =
-    let some : 0 < length (drop at text) = omega (arith, length-drop at text) in
-    let count : end - at ≡ position_or_len is_newline (drop at text) = omega arith in
-    let behind : end + 1 ≡ at + (position_or_len is_newline (drop at text) + 1) = omega arith in
-    rw (count, behind, ← drop-drop (position_or_len is_newline (drop at text) + 1) at text) (text_lines-first (drop at text) some)
+-- it ends before a newline
+pub ends_before : (text : List ℕ) (end : ℕ) → end ≡ position_or_len is_newline text → end < length text
+    → text_lines text ≡ take end text ∷ text_lines (take (length text - (end + 1)) (drop (end + 1) text))
+ends_before text end is before =
+    text_lines-first text (omega arith)
+    ∙ sym (λ i. take (is i) text ∷ text_lines (drop (is i + 1) text))
+    ∙ ap (λ rest. take end text ∷ text_lines rest) (sym (take_rest text (end + 1)))
 
--- the line from a place on ends with the text: that line, and nothing after it
-pub text_lines-last : (text : List ℕ) (at end : ℕ) → at < length text
-    → end ≡ at + position_or_len is_newline (drop at text) → length text ≤ end
-    → text_lines (drop at text) ≡ slice_range text at end ∷ text_lines (drop end text)
-text_lines-last text at end inside e last =
-    text_lines-ends text at end inside e
-    ∙ ap (λ rest. slice_range text at end ∷ text_lines rest)
-    (drop_all (end + 1) text (omega arith) ∙ sym (drop_all end text last))
+some_byte : (n : ℕ) → (n == 0) ≡ false → 0 < n
+some_byte n some = grind (arith, nat_tests)
+
+-- it is the whole text
+pub is_whole : (text : List ℕ) (end : ℕ) → end ≡ position_or_len is_newline text → length text ≤ end → (length text == 0) ≡ false
+    → text_lines text ≡ text ∷ text_lines (take (length text - end) (drop end text))
+is_whole text end is last some =
+    text_lines-first text (some_byte (length text) some)
+    ∙ sym (λ i. take (is i) text ∷ text_lines (drop (is i + 1) text))
+    ∙ (λ i. take_all end text last i ∷ text_lines (drop_all (end + 1) text (omega arith) i))
+    ∙ ap (λ rest. text ∷ text_lines rest) (sym (take_rest text end ∙ drop_all end text last))
 
 -- no newline stands before the first one
-inside_line : (text : List ℕ) (at end : ℕ) → end ≡ at + position_or_len is_newline (drop at text)
-    → All (λ byte. byte ≢ 10) (slice_range text at end)
-inside_line text at end e k d h =
-    let count : end - at ≡ position_or_len is_newline (drop at text) = omega arith in
-    let bound = prefix_len-le-length (λ byte. not (is_newline byte)) (drop at text) in
-    let size = length-take-le (position_or_len is_newline (drop at text)) (drop at text) bound in
-    let before : k < position_or_len is_newline (drop at text) = omega (arith, simp count at h, size) in
-    rw (count, get_or-take (position_or_len is_newline (drop at text)) (drop at text) k d before)
-    (eqb-false (get_or (drop at text) k d) 10 (fails_before_first is_newline (drop at text) k d before))
+before_newline : (text : List ℕ) (end : ℕ) → end ≡ position_or_len is_newline text → All (λ byte. byte ≢ 10) (take end text)
+before_newline text end is k d inside =
+    let bound = prefix_len-le-length (λ byte. not (is_newline byte)) text in
+    let size = length-take-le (position_or_len is_newline text) text bound in
+    let before : k < position_or_len is_newline text = omega (arith, simp is at inside, size) in
+    rw (is, get_or-take (position_or_len is_newline text) text k d before)
+    (eqb-false (get_or text k d) 10 (fails_before_first is_newline text k d before))
 
--- the first newline, where there is one
-newline_at : (text : List ℕ) (at end : ℕ) → end ≡ at + position_or_len is_newline (drop at text) → end < length text
-    → get_or text end 0 ≡ 10
-newline_at text at end e before =
-    let within : position_or_len is_newline (drop at text) < length (drop at text) = omega (arith, length-drop at text) in
-    rw (e, ← get_or-drop at text (position_or_len is_newline (drop at text)) 0)
-    (eqb-true (get_or (drop at text) (position_or_len is_newline (drop at text)) 0) 10 (passes_at_first is_newline (drop at text) 0 within))
-
-pub IsLineAt-ends : (text : List ℕ) (at end : ℕ) → at < length text
-    → end ≡ at + position_or_len is_newline (drop at text) → end < length text
-    → IsLineAt text at record { start = at; end = end; next = end + 1 }
-IsLineAt-ends text at end inside e before = record {
-  starts = refl;
-  inside = inside_line text at end e;
-  ends = inr (before, newline_at text at end e before, refl);
-  forward = omega arith;
-}
-
-pub IsLineAt-last : (text : List ℕ) (at end : ℕ) → at < length text
-    → end ≡ at + position_or_len is_newline (drop at text) → length text ≤ end
-    → IsLineAt text at record { start = at; end = end; next = end }
-IsLineAt-last text at end inside e last =
-    let bound = prefix_len-le-length (λ byte. not (is_newline byte)) (drop at text) in
-    let whole : end ≡ length text = omega (arith, length-drop at text) in
+-- what a first line is, where a newline ends it
+pub first_ends_before : (text : List ℕ) (end : ℕ) → end ≡ position_or_len is_newline text → end < length text
+    → IsFirstLine text (take end text) (take (length text - (end + 1)) (drop (end + 1) text))
+first_ends_before text end is before =
+    let newline : get_or text end 0 ≡ 10 = rw is (eqb-true (get_or text (position_or_len is_newline text) 0) 10 (passes_at_first is_newline text 0 (omega arith))) in
+    let split = split_at_first is_newline text 0 (omega arith) in
     record {
-      starts = refl;
-      inside = inside_line text at end e;
-      ends = inl (whole, refl);
-      forward = omega arith;
+      plain = before_newline text end is;
+      ends = inl (rw (take_rest text (end + 1)) (split ∙ (λ i. take (sym is i) text ++ get_or text (sym is i) 0 ∷ drop (sym is i + 1) text) ∙ ap (λ byte. take end text ++ byte ∷ drop (end + 1) text) newline));
     }
 
--- where no byte is a newline, the first line is the whole text
-pub position_or_len-none : (text : List ℕ) → position is_newline text ≡ None
-    → length text ≡ position_or_len is_newline text
-position_or_len-none text h =
-    let bound = prefix_len-le-length (λ byte. not (is_newline byte)) text in
-    elim (cases_lt (position_or_len is_newline text) (length text)) [
-      | inl found ↦
-          cc (sym (cond-true (ltb (position_or_len is_newline text) (length text)) (Some (position_or_len is_newline text)) None (lt-ltb (position_or_len is_newline text) (length text) found)) ∙ h)
-      | inr all ↦ omega arith
-    ]
+-- and where the text does
+pub first_is_whole : (text : List ℕ) (end : ℕ) → end ≡ position_or_len is_newline text → length text ≤ end
+    → IsFirstLine text text (take (length text - end) (drop end text))
+first_is_whole text end is last = record {
+  plain = rw (take_all end text last) at (before_newline text end is);
+  ends = inr (refl, take_rest text end ∙ drop_all end text last);
+}
+
+-- the first newline that a search found, or the length where it found none
+pub first_newline : (text : List ℕ) (found : Option ℕ) → IsFirstByte is_newline text found
+    → unwrap_or found (length text) ≡ position_or_len is_newline text
+first_newline text (Some place) is =
+    sym (position_or_len_is is_newline text place 0 (omega (arith, is.0.high))
+    (λ k below. false_from_ne_true _ (is.0.before k (omega arith) below)) (λ _. is.1))
+first_newline text None is =
+    sym (position_or_len_is is_newline text (length text) 0 (omega arith)
+    (λ k below. false_from_ne_true _ (is k (omega arith) below)) (λ past. absurd (omega arith)))

@@ -21,10 +21,10 @@ use crate::source::Source;
 use crate::stop::{Sink, Stop};
 use crate::taking::{take_job, take_keys};
 use crate::writing::write_bytes;
+use esa_bytes::line_count;
 use esa_encoder::EncodeRefused;
 use esa_envelope::{Keys, Label, record_keys};
 use esa_job::{Command, Job, JobField, KeyRing};
-use esa_line::line_count;
 use esa_outside::{Cabinet, Failed, Printer};
 use std::alloc::Global;
 

@@ -1,39 +1,25 @@
 -- A queue that is fed target by target, with contents and by counts alone.
-use Rattle.std.proofs.Common.{◌≡◌, ℕ, zero, suc, ◌+◌, ◌-◌, ◌*◌, ◌≤◌, ◌<◌, ⊎_elim, true, cond, List, ◌++◌, length, take, drop, map, sym, ◌∙◌, ap, subst, arith}
+use Rattle.std.proofs.Common.{◌≡◌, ℕ, zero, suc, ◌+◌, ◌-◌, ◌*◌, ◌≤◌, ◌<◌, true, cond, List, ◌++◌, length, take, drop, map, sym, ◌∙◌, ap, subst, arith}
 use Rattle.std.specs.List.{sum_by}
 use Rattle.std.specs.List.Sorted.{IsPermutation}
 use Rattle.std.specs.Prelude.{None, nat_lt}
 use Rattle.std.proofs.lemmas.List.{map-append, take-map, drop-map, length-map}
 use Rattle.esa_params.specs.Sizes.{Sizes, first, size, below}
 use Rattle.esa_report.specs.declared.item.Item.{Item}
-use Rattle.esa_laws.proofs.FinishLaws.{none-found}
-use Rattle.esa_laws.proofs.Tests.{not_above}
-use Rattle.std.proofs.lemmas.Bool.{cases_lt, lt-ltb, le-ltb}
 use Rattle.esa_laws.proofs.LineLaws.{length-queued}
-use Rattle.esa_laws.proofs.PlaceLaws.{length-imports, length-parts, reached-arranged}
+use Rattle.esa_laws.proofs.PlaceLaws.{fits-each, length-imports, length-parts, reached-arranged}
 use Rattle.esa_laws.proofs.SizeLaws.{first-more, reached-all}
 use Rattle.esa_laws.proofs.TotalLaws.{all-exchanged, once, order-permutes}
-use Rattle.esa_laws.proofs.WindowLaws.{import-verdict, window-import, window-put, window-output, reached-le}
+use Rattle.esa_laws.proofs.WindowLaws.{import-verdict, same-test, window-import, window-put, window-output, reached-le}
 use Rattle.esa_spec.specs.Draws.{Draw, IsDrawn}
-use Rattle.esa_spec.specs.Lines.{backlog, chunk}
+use Rattle.esa_spec.specs.Lines.{chunk}
 use Rattle.esa_spec.specs.Places.{exchange_of, arranged, window, output_places}
 use Rattle.esa_spec.specs.Turns.{order, writes}
-use Rattle.esa_spec.specs.Verdicts.{imported, left, is_left, reached, step_verdict, Import, Put}
+use Rattle.esa_spec.specs.Verdicts.{imported, left, reached, step_verdict, Import, Put}
 use Rattle.esa_spec.specs.declared.event.Verdict.TheVariants.{Good, QueueOverflow, QueueStarved}
 use Rattle.esa_compress.specs.Held.{is_held, held_in, held_count}
 use Rattle.esa_compress.specs.Imported.{import_items, parts_of}
 use Rattle.esa_compress.proofs.HeldLaws.{held-arranged, count-imports, length-import_items}
-
--- two tests that tell the same
-same-test : (a b c d : ℕ) → (a < b → c < d) → (b ≤ a → d ≤ c) → nat_lt a b ≡ nat_lt c d
-same-test a b c d below_too above_too = ⊎_elim
-    (λ (less : a < b). lt-ltb a b less ∙ sym (lt-ltb c d (below_too less)))
-    (λ (not_less : b ≤ a). le-ltb a b not_less ∙ sym (le-ltb c d (above_too not_less)))
-    (cases_lt a b)
-
--- no target left more than a tail
-fits-each : (p : Sizes) (d : Draw) (h : List ℕ) → left p d (order p.b h) ≡ None → (i : ℕ) → i < p.b → backlog p d (order p.b h) p.b i ≤ p.k
-fits-each p d h fits i i_in = not_above p.k (backlog p d (order p.b h) p.b i) (none-found (is_left p d (order p.b h)) p.b fits i i_in)
 
 module _ (record_of : ℕ → Item) (held : (x : ℕ) → is_held (record_of x) ≡ true) where
   pub parts-counted : (p : Sizes) (d : Draw) (o : List ℕ) (i : ℕ) → held_count (import_items record_of p d o i) ≡ parts_of p d o i
@@ -77,7 +63,7 @@ module _ (p : Sizes) (d : Draw) (h : List ℕ) (drawn : IsDrawn p d) (all : writ
         let o = order p.b h in
         let long : length (import_items record_of p d o i) ≡ p.b * p.c + p.k =
         length-import_items record_of held p d o i
-        ∙ length-imports p d drawn o (all-exchanged p.b h all) (order-permutes p.b h all) (λ j j_in. once p.b h j all j_in) i (fits-each p d h fits i i_in) in
+        ∙ length-imports p d drawn o (all-exchanged p.b h all) (order-permutes p.b h all) (λ j j_in. once p.b h j all j_in) i (fits-each p d o fits i i_in) in
         subst (λ n. IsPermutation (below n) (d.order i)) (sym long) (drawn.orders_permute i i_in)
 
     pub queue-import : (j i : ℕ) → i < p.b → first p j ≤ reached p d i

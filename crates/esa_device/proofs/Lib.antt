@@ -1,4 +1,3 @@
 mod BlockLaws
-mod Fieldless
 mod Lengths
 pub mod LogLaws

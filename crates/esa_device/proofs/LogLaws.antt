@@ -4,12 +4,13 @@ use Rattle.std.specs.Prelude.{find, slice_get, slice_set, if◌then◌else◌, O
 use Rattle.std.proofs.lemmas.Bool.{cases_Bool}
 use Rattle.std.proofs.lemmas.Bool.Decides.{nat_tests}
 use Rattle.std.proofs.lemmas.List.{map-append, reverse-append}
+use Rattle.esa_params.specs.Slots.{slot_number, is_writing, writes_number}
 use Rattle.esa_params.specs.Sizes.{Sizes}
 use Rattle.esa_params.specs.declared.slot.Access.{Access}
 use Rattle.esa_params.specs.declared.slot.Op.TheVariants.{Read, Write}
 use Rattle.esa_device.specs.Blocks.{ChangesBlock}
 use Rattle.esa_device.specs.Recording.{Names, number_in}
-use Rattle.esa_device.specs.Logs.{Carried, Gave, HoldsWritten, IsBacked, IsFaithful, Took, carried_by, is_write, latest_carried, slot_number, writes_to}
+use Rattle.esa_device.specs.Logs.{Carried, Gave, HoldsWritten, IsBacked, IsFaithful, Took, carried_by, latest_carried}
 
 -- a beginning of a faithful log is faithful
 pub faithful-front : (p : Sizes) (log more : List Carried) → IsFaithful p (log ++ more) → IsFaithful p log
@@ -62,23 +63,23 @@ faithful-last p log last given written faithful gave took = faithful log [] last
 
 -- by whether the last access writes the slot
 pub latest-push : (p : Sizes) (number : ℕ) (log : List Carried) (last : Carried)
-    → latest_carried p number (log ++ last ∷ []) ≡ (if writes_to p number last.access then Some last else latest_carried p number log)
-latest-push p number log last = ap (find (λ (entry : Carried). writes_to p number entry.access)) (reverse-append log (last ∷ []))
+    → latest_carried p number (log ++ last ∷ []) ≡ (if writes_number p number last.access then Some last else latest_carried p number log)
+latest-push p number log last = ap (find (λ (entry : Carried). writes_number p number entry.access)) (reverse-append log (last ∷ []))
 
 -- a read writes no slot
-pub reads_nothing : (p : Sizes) (number : ℕ) (access : Access) → access.op ≡ Read → writes_to p number access ≡ false
-reads_nothing p number access reads = ap (λ op. is_write op && slot_number p access == number) reads
+pub reads_nothing : (p : Sizes) (number : ℕ) (access : Access) → access.op ≡ Read → writes_number p number access ≡ false
+reads_nothing p number access reads = ap (λ op. is_writing op && slot_number p access == number) reads
 
 -- nor does a write of another slot write this one
-pub writes_elsewhere : (p : Sizes) (number : ℕ) (access : Access) → number ≢ slot_number p access → writes_to p number access ≡ false
-writes_elsewhere p number access other = elim (cases_Bool (is_write access.op)) [
+pub writes_elsewhere : (p : Sizes) (number : ℕ) (access : Access) → number ≢ slot_number p access → writes_number p number access ≡ false
+writes_elsewhere p number access other = elim (cases_Bool (is_writing access.op)) [
   | inl writes ↦ rw writes (grind (arith, nat_tests))
   | inr reads ↦ rw reads refl
 ]
 
-pub writes_here : (p : Sizes) (number : ℕ) (access : Access) → access.op ≡ Write → number ≡ slot_number p access → writes_to p number access ≡ true
+pub writes_here : (p : Sizes) (number : ℕ) (access : Access) → access.op ≡ Write → number ≡ slot_number p access → writes_number p number access ≡ true
 writes_here p number access writes same =
-    ap (λ op. is_write op && slot_number p access == number) writes ∙ grind (arith, nat_tests)
+    ap (λ op. is_writing op && slot_number p access == number) writes ∙ grind (arith, nat_tests)
 
 pub get-set_same : (blocks : List (List ℕ)) (number : ℕ) (bytes : List ℕ) → number < length blocks
     → slice_get (slice_set blocks number bytes) number ≡ Some bytes
@@ -96,7 +97,7 @@ get-set_other (block ∷ blocks) (suc number) (suc other) bytes differs =
     get-set_other blocks number other bytes (λ same. differs (ap suc same))
 
 -- where the last access doesn't write the slot, the latest write is the one before
-pub took-before : (p : Sizes) (number : ℕ) (bytes : List ℕ) (log : List Carried) (last : Carried) → writes_to p number last.access ≡ false
+pub took-before : (p : Sizes) (number : ℕ) (bytes : List ℕ) (log : List Carried) (last : Carried) → writes_number p number last.access ≡ false
     → Took p number bytes (log ++ last ∷ []) → Took p number bytes log
 took-before p number bytes log last none took = (
   took.0,
@@ -104,7 +105,7 @@ took-before p number bytes log last none took = (
 )
 
 -- and where it does, it is the latest
-pub took-here : (p : Sizes) (number : ℕ) (bytes : List ℕ) (log : List Carried) (last : Carried) → writes_to p number last.access ≡ true
+pub took-here : (p : Sizes) (number : ℕ) (bytes : List ℕ) (log : List Carried) (last : Carried) → writes_number p number last.access ≡ true
     → Took p number bytes (log ++ last ∷ []) → last.bytes ≡ Some bytes
 took-here p number bytes log last writes took =
     let same : Some last ≡ Some (record { access = took.0; bytes = Some bytes }) =
@@ -113,7 +114,7 @@ took-here p number bytes log last writes took =
     ap (λ (entry : Carried). entry.bytes) is
 
 -- what was the latest stays so where the last access doesn't write the slot
-took-after : (p : Sizes) (number : ℕ) (bytes : List ℕ) (log : List Carried) (last : Carried) → writes_to p number last.access ≡ false
+took-after : (p : Sizes) (number : ℕ) (bytes : List ℕ) (log : List Carried) (last : Carried) → writes_number p number last.access ≡ false
     → Took p number bytes log → Took p number bytes (log ++ last ∷ [])
 took-after p number bytes log last none took = (
   took.0,
@@ -216,14 +217,14 @@ holds-write p held log access result bytes left writes there stored holds number
       | inl here ↦
           let at : number ≡ slot_number p access = grind (arith, nat_tests) in
           let is : (carried_by access result bytes).bytes ≡ Some wrote =
-          took-here p number wrote log (carried_by access result bytes) (ap (writes_to p number) same ∙ writes_here p number access writes at) took in
+          took-here p number wrote log (carried_by access result bytes) (ap (writes_number p number) same ∙ writes_here p number access writes at) took in
           ap (slice_get (slice_set held (slot_number p access) left)) at
           ∙ get-set_same held (slot_number p access) left there
           ∙ left-took access result bytes left wrote stored is
       | inr other ↦
           let elsewhere : number ≢ slot_number p access = grind (arith, nat_tests) in
           get-set_other held (slot_number p access) number left elsewhere
-          ∙ holds number wrote (took-before p number wrote log (carried_by access result bytes) (ap (writes_to p number) same ∙ writes_elsewhere p number access elsewhere) took)
+          ∙ holds number wrote (took-before p number wrote log (carried_by access result bytes) (ap (writes_number p number) same ∙ writes_elsewhere p number access elsewhere) took)
     ]
 
 write-told : {T E : Type 0} (p : Sizes) (held : List (List ℕ)) (new : Option (List (List ℕ))) (log : List Carried) (access : Access) (result : Result T E) (bytes left : List ℕ)

@@ -1,10 +1,9 @@
 -- What accesses carried, and when a log of it is faithful. Only proofs read a log.
-use Rattle.std.specs.Prelude.{◌≡◌, ℕ, ◌==◌, ◌&&◌, Bool, true, false, List, ◌∷◌, ◌++◌, find, reverse, slice_get, Option, Some, None, Result, Ok, Err}
+use Rattle.std.specs.Prelude.{◌≡◌, ℕ, List, ◌∷◌, ◌++◌, find, reverse, slice_get, Option, Some, None, Result, Ok, Err}
 use Rattle.esa_params.specs.Sizes.{Sizes}
-use Rattle.esa_params.specs.Slots.{at, number_of}
+use Rattle.esa_params.specs.Slots.{slot_number, writes_number}
 use Rattle.esa_params.specs.declared.slot.Access.{Access}
-use Rattle.esa_params.specs.declared.slot.Op.{Op}
-use Rattle.esa_params.specs.declared.slot.Op.TheVariants.{Read, Write}
+use Rattle.esa_params.specs.declared.slot.Op.TheVariants.{Read}
 
 -- an access, and the bytes that it gave or took, unless it failed
 pub record Carried : Type 0 where
@@ -20,22 +19,9 @@ moved (Err failure) bytes = None
 abbrev pub carried_by : {T E : Type 0} → Access → Result T E → List ℕ → Carried
 carried_by access result bytes = record { access = access; bytes = moved result bytes }
 
--- the operation writes
-abbrev pub is_write : Op → Bool
-is_write Read = false
-is_write Write = true
-
--- the number of the slot that an access is to
-abbrev pub slot_number : Sizes → Access → ℕ
-slot_number p access = number_of p (at access.region access.index)
-
--- the access writes the slot of this number
-abbrev pub writes_to : Sizes → ℕ → Access → Bool
-writes_to p number access = is_write access.op && slot_number p access == number
-
 -- the latest write of the slot of this number, and what it took
 abbrev pub latest_carried : Sizes → ℕ → List Carried → Option Carried
-latest_carried p number log = find (λ entry. writes_to p number entry.access) (reverse log)
+latest_carried p number log = find (λ entry. writes_number p number entry.access) (reverse log)
 
 -- the latest write of the slot of this number took these bytes
 abbrev pub Took : Sizes → ℕ → List ℕ → List Carried → Type 0

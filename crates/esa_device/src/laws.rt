@@ -3,9 +3,10 @@
 //! The functions do nothing when they run. They are there so that each law is proved where a contract names it.
 
 ghost use Rattle.std.specs.Prelude.{◌≡◌, ◌≢◌, ℕ, List, [], ◌∷◌, ◌++◌, Some};
+ghost use Rattle.esa_params.specs.Slots.{slot_number};
 ghost use Rattle.esa_params.specs.Sizes.{Sizes};
 ghost use Rattle.esa_params.specs.declared.slot.Op.{Op};
-ghost use Rattle.esa_device.specs.Logs.{Carried, Gave, IsFaithful, Took, slot_number};
+ghost use Rattle.esa_device.specs.Logs.{Carried, Gave, IsFaithful, Took};
 
 /// A beginning of a faithful log is faithful. With one entry more a log stays faithful where that entry is no read,
 /// failed, or gave what the latest write of its slot took.

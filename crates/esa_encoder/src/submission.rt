@@ -12,8 +12,9 @@ ghost use Rattle.esa_encoder.specs.Report.{itself};
 use crate::report::report_in;
 use crate::seal::{put_hex, seal_report};
 use crate::shape::{Itself, ROOM, Shaper};
+use esa_bytes::{line_count, split_line};
 use esa_envelope::{Keys, Prepared, prepare};
-use esa_line::{LineRefused, line_count, split_line};
+use esa_line::LineRefused;
 use esa_params::{Form, MOST_RECORDS};
 use std::alloc::{AllocError, Global};
 

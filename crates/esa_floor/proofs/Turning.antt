@@ -2,13 +2,12 @@
 use Rattle.std.proofs.Common.{◌≡◌, ◌≢◌, ℕ, ◌+◌, ◌-◌, ◌<◌, ◌≤◌, true, false, List, [], ◌∷◌, ◌++◌, length, take, Option, Some, None, refl, sym, ap, ap₂, ◌∙◌, subst, arith, append_assoc, append-nil, take_all}
 use Rattle.std.specs.Option.{option_to_list}
 use Rattle.std.proofs.lemmas.List.{length-append, take-append-le}
-use Rattle.esa_device.specs.Logs.{slot_number}
 use Rattle.esa_device.specs.Recording.{Recorded}
 use Rattle.esa_laws.proofs.HistoryLaws.{begun-worker, latest-worker, lists-worker}
 use Rattle.esa_laws.proofs.SpreadLaws.{spread-push}
 use Rattle.esa_laws.proofs.TurnLaws.{event_at-append}
 use Rattle.esa_outside.specs.Cause.{Rose}
-use Rattle.esa_params.specs.Slots.{at}
+use Rattle.esa_params.specs.Slots.{at, slot_number}
 use Rattle.esa_params.specs.declared.slot.Access.{Access}
 use Rattle.esa_params.specs.declared.slot.Region.TheVariants.{Input}
 use Rattle.esa_spec.specs.Draws.{Draw}

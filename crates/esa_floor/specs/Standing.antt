@@ -2,7 +2,7 @@
 use Rattle.std.specs.Prelude.{◌≡◌, ℕ, ◌+◌, ◌-◌, ◌/◌, ◌%◌, ◌<◌, ◌≤◌, ◌==◌, min, true, false, List, [], ◌∷◌, ◌++◌, length, take, count_by, slice_index_or, All, Option, Some, None}
 use Rattle.esa_outside.specs.Cause.{Rose}
 use Rattle.esa_params.specs.Sizes.{Sizes, size}
-use Rattle.esa_params.specs.Slots.{at, greatest_trace, item_length}
+use Rattle.esa_params.specs.Slots.{at, greatest_trace, item_length, slot_number}
 use Rattle.esa_params.specs.declared.slot.Access.{Access}
 use Rattle.esa_params.specs.declared.slot.Op.TheVariants.{Read as Reads}
 use Rattle.esa_params.specs.declared.slot.Region.{Region}
@@ -17,7 +17,6 @@ use Rattle.esa_spec.specs.Turns as turns
 use Rattle.esa_spec.specs.Verdicts.{failing}
 use Rattle.esa_spec.specs.declared.event.Event.TheVariants.{Exchange, Read}
 use Rattle.esa_stash.specs.Stash.{Held, empty_stash, queue_at}
-use Rattle.esa_device.specs.Logs.{slot_number}
 use Rattle.esa_vault.specs.Placed.{IsHeld, IsSpelled}
 use Rattle.esa_vault.specs.Seals.{opens}
 use Rattle.esa_floor.specs.Parts.{Counted, Parts, count_at, no_counts}

@@ -1,10 +1,10 @@
 //! Drops: how many records of a crowd are dropped, by the crowd's place in a table.
 
-ghost use Rattle.std.specs.Prelude.{◌≡◌, ◌≤◌, drop, option_map, option_and_then, slice_get, IfSome, length};
+ghost use Rattle.std.specs.Prelude.{◌≡◌, drop, option_map, option_and_then, slice_get, IfSome};
 ghost use Rattle.esa_bytes.specs.Lines.{text_lines};
 ghost use Rattle.esa_job.specs.Drops.{drop_in};
 
-use esa_bytes::{decimal, line_at};
+use esa_bytes::{decimal, split_line};
 use esa_params::MOST_OF_A_CROWD;
 use std::marker::Model;
 
@@ -47,17 +47,17 @@ impl Drops {
         ensures err { IfErr result (λ e. drops_of bytes.now ≡ Err e) }
     {
         let mut entries = [0; 256];
-        let mut at = 0;
+        let mut rest = bytes;
         for place in 0..256 {
-            match next_drop(bytes, at) {
-                Some((number, next)) => {
+            match next_drop(rest) {
+                Some((number, behind)) => {
                     entries[place] = number;
-                    at = next;
+                    rest = behind;
                 }
                 None => return Err(DropsRefused::Line(place as u64 + 1)),
             }
         }
-        match line_at(bytes, at) {
+        match split_line(rest) {
             Some(_) => Err(DropsRefused::Line(257)),
             None => Ok(Drops { entries }),
         }
@@ -71,24 +71,17 @@ impl Drops {
     }
 }
 
-// The drop that the line at `at` writes, and where the next line starts.
-fn next_drop(bytes: &[u8], at: usize) -> Option<(u32, usize)>
-    requires { at ≤ length bytes.now }
-    ensures value { option_map (λ found. found.0) result
-        ≡ option_and_then drop_in (slice_get (text_lines (drop at bytes.now)) 0) }
-    ensures rest { IfSome result (λ found. drop 1 (text_lines (drop at bytes.now)) ≡ text_lines (drop found.1 bytes.now)) }
-    ensures within { IfSome result (λ found. found.1 ≤ length bytes.now) }
+/// The drop that the first line writes, and the text behind the line.
+fn next_drop(text: &[u8]) -> Option<(u32, &[u8])>
+    ensures value { option_map (λ found. found.0) result ≡ option_and_then drop_in (slice_get (text_lines text.now) 0) }
+    ensures rest { IfSome result (λ found. drop 1 (text_lines text.now) ≡ text_lines found.1.now) }
 {
-    match line_at(bytes, at) {
-        Some(line) => match drop_of(&bytes[line.start..line.end]) {
-            Some(number) => Some((number, line.next)),
-            None => None,
-        },
-        None => None,
-    }
+    let (line, behind) = split_line(text)?;
+    let number = drop_of(line)?;
+    Some((number, behind))
 }
 
-// The drop that a line writes: a decimal number up to 262,144.
+/// The drop that a line writes: a decimal number up to 262,144.
 fn drop_of(line: &[u8]) -> Option<u32>
     ensures { result ≡ drop_in line.now }
 {

@@ -2,7 +2,7 @@
 use Rattle.std.proofs.Common.{◌≡◌, ◌≢◌, ℕ, zero, suc, ◌+◌, ◌-◌, ◌*◌, ◌≤◌, ◌<◌, Bool, true, false, not, cond, ◌==◌, List, [], ◌∷◌, ◌++◌, length, get_or, take, drop, map, replicate, refl, sym, ◌∙◌, ap, subst, arith, add-one, add-zero, append-nil, length-append, length-take, length-drop}
 use Rattle.std.specs.List.{sum_by, count_by, flat_map, filter_map, cons_option, position_or_len, All}
 use Rattle.std.specs.List.Sorted.{IsPermutation}
-use Rattle.std.specs.Prelude.{Option, Some, None, nat_lt}
+use Rattle.std.specs.Prelude.{Option, Some, None}
 use Rattle.std.proofs.lemmas.Bool.{eq-eqb}
 use Rattle.std.proofs.lemmas.List.{get_or-take, get_or-drop, take-append-drop, take_all, drop_all, length-map, length-replicate}
 use Rattle.std.proofs.lemmas.List.Concat.{length-flat_map, flat_map-append}
@@ -264,12 +264,14 @@ module _ (p : Sizes) (d : Draw) (drawn : IsDrawn p d) (o : List ℕ) (each : len
       (drawn.target_for_each j j_in ∙ sym (length-range_with_len (first p j) (size p j))) (drawn.targets_below j j_in))
       ∙ whole-counts p x some)
 
+-- where no target leaves more than a tail holds, each leaves no more
+pub fits-each : (p : Sizes) (d : Draw) (o : List ℕ) → left p d o ≡ None → (i : ℕ) → i < p.b → backlog p d o p.b i ≤ p.k
+fits-each p d o fits i i_in = not_above p.k (backlog p d o p.b i) (none-found (is_left p d o) p.b fits i i_in)
+
 -- a good attempt has written all, and left nothing that a tail doesn't hold
 fits-by : (p : Sizes) (d : Draw) (o : List ℕ) (l : Option ℕ) → left p d o ≡ l → drained p d l ≡ Good → (i : ℕ) → i < p.b → backlog p d o p.b i ≤ p.k
 fits-by p d o (Some j) e good i i_in = absurd (cc)
-fits-by p d o None e good i i_in =
-    let fails : nat_lt p.k (backlog p d o p.b i) ≡ false = none-found (is_left p d o) p.b e i i_in in
-    not_above p.k (backlog p d o p.b i) fails
+fits-by p d o None e good i i_in = fits-each p d o e i i_in
 
 good-by : (p : Sizes) (d : Draw) (h : List ℕ) → 1 ≤ p.b → IsDrawn p d → Ended p d h → verdict p d h ≡ Good → IsPermutation (below p.n) (places p d h)
 good-by p d h some drawn (failed k e) good = let is = ap (settled p d (order p.b h)) e in absurd (cc)
@@ -286,9 +288,6 @@ abbrev pub by_target : Sizes → Draw → ℕ → List ℕ
 by_target p d i = flat_map (chosen_places p d i) (below p.b)
 
 module _ (p : Sizes) (d : Draw) (h : List ℕ) (drawn : IsDrawn p d) (all : writes p.b h ≡ p.b * p.b) (fits : left p d (order p.b h) ≡ None) where
-  fits-each : (i : ℕ) → i < p.b → backlog p d (order p.b h) p.b i ≤ p.k
-  fits-each i i_in = not_above p.k (backlog p d (order p.b h) p.b i) (none-found (is_left p d (order p.b h)) p.b fits i i_in)
-
   pub arranged-permutes : (i : ℕ) → i < p.b → IsPermutation (by_target p d i) (arranged p d (order p.b h) i)
   arranged-permutes i i_in =
       let o = order p.b h in
@@ -297,7 +296,7 @@ module _ (p : Sizes) (d : Draw) (h : List ℕ) (drawn : IsDrawn p d) (all : writ
       let single = λ (j : ℕ) (j_in : j < p.b). once p.b h j all j_in in
       permutes-counted (by_target p d i) (arranged p d o i) (λ x.
       arranged-counts x (imports p d o i) (d.order i)
-      (subst (λ n. IsPermutation (below n) (d.order i)) (sym (length-imports p d drawn o each perm single i (fits-each i i_in))) (drawn.orders_permute i i_in))
+      (subst (λ n. IsPermutation (below n) (d.order i)) (sym (length-imports p d drawn o each perm single i (fits-each p d (order p.b h) fits i i_in))) (drawn.orders_permute i i_in))
       ∙ import-counts p d drawn o each perm single i x
       ∙ sym (sum-of-flat_map (λ z. bit (z == x)) (chosen_places p d i) (below p.b)))
 
@@ -314,7 +313,7 @@ module _ (p : Sizes) (d : Draw) (h : List ℕ) (drawn : IsDrawn p d) (all : writ
       sym (
       length-filter_map (entry (imports p d o i)) (d.order i)
       ∙ arranged-sum there (imports p d o i) (d.order i)
-      (subst (λ n. IsPermutation (below n) (d.order i)) (sym (length-imports p d drawn o each perm single i (fits-each i i_in))) (drawn.orders_permute i i_in))
+      (subst (λ n. IsPermutation (below n) (d.order i)) (sym (length-imports p d drawn o each perm single i (fits-each p d (order p.b h) fits i i_in))) (drawn.orders_permute i i_in))
       ∙ sum_by-append there (flat_map (padded_chunk p d o i) (below p.b)) (padded p.k (tail p d o i))
       ∙ ap (λ y. y + sum_by there (padded p.k (tail p d o i))) (sum-of-flat_map there (padded_chunk p d o i) (below p.b))
       ∙ ap (λ y. y + sum_by there (padded p.k (tail p d o i)))

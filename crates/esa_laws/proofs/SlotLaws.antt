@@ -5,7 +5,7 @@ use Rattle.std.specs.Prelude.{Option, Some, None, unwrap_or}
 use Rattle.std.proofs.lemmas.Bool.{cases_lt, eq-eqb}
 use Rattle.std.proofs.lemmas.List.Sums.{sum_by-cons, sum_by-append}
 use Rattle.esa_params.specs.Sizes.{Sizes, ArePlanned, below}
-use Rattle.esa_params.specs.Slots.{at, access_of, nonce_of}
+use Rattle.esa_params.specs.Slots.{at, access_of, nonce_of, writes_number}
 use Rattle.esa_params.specs.declared.slot.Slot.{Slot}
 use Rattle.esa_params.specs.declared.slot.Region.TheVariants.{Input, Mid, Tail, Output}
 use Rattle.esa_params.specs.declared.slot.Op.TheVariants.{Read as Reads, Write as Writes}
@@ -16,7 +16,7 @@ use Rattle.esa_laws.proofs.PermLaws.{occurs-cons}
 use Rattle.esa_laws.proofs.Ranges.{map-below-suc}
 use Rattle.esa_laws.proofs.Tests.{bit, equal}
 use Rattle.esa_spec.specs.Draws.{Draw}
-use Rattle.esa_spec.specs.Traces.{asked, made, spread, written_input, load, read_chunk, step_accesses, walk, compression, written_tail, drain, rest, attempt_trace, is_failed, attempts, read_output, scan, scans, good_attempt, trace, written_nonce, writes_number, writes_in}
+use Rattle.esa_spec.specs.Traces.{asked, made, spread, written_input, load, read_chunk, step_accesses, walk, compression, written_tail, drain, rest, attempt_trace, is_failed, attempts, read_output, scan, scans, good_attempt, trace, written_nonce, writes_in}
 use Rattle.esa_spec.specs.Turns.{events, order}
 use Rattle.esa_spec.specs.Verdicts.{failing, is_finished, left, Step, Import, Put, steps, step_verdict, is_good}
 use Rattle.esa_spec.specs.declared.event.Event.{Event}

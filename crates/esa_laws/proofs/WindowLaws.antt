@@ -17,7 +17,7 @@ use Rattle.esa_spec.specs.Verdicts.{left, reached, imported, step_verdict, Impor
 use Rattle.esa_spec.specs.declared.event.Verdict.TheVariants.{Good, QueueOverflow, QueueStarved}
 
 -- two tests that tell the same
-same-test : (a b c d : ℕ) → (a < b → c < d) → (b ≤ a → d ≤ c) → nat_lt a b ≡ nat_lt c d
+pub same-test : (a b c d : ℕ) → (a < b → c < d) → (b ≤ a → d ≤ c) → nat_lt a b ≡ nat_lt c d
 same-test a b c d below_too above_too = ⊎_elim
     (λ (less : a < b). lt-ltb a b less ∙ sym (lt-ltb c d (below_too less)))
     (λ (not_less : b ≤ a). le-ltb a b not_less ∙ sym (le-ltb c d (above_too not_less)))

@@ -2,8 +2,9 @@
 
 ghost use Rattle.std.specs.Prelude.{ℕ, ◌<◌, ◌≤◌, ◌==◌, List, count_by};
 ghost use Rattle.esa_params.specs.Sizes.{Sizes, ArePlanned};
+ghost use Rattle.esa_params.specs.Slots.{writes_number};
 ghost use Rattle.esa_spec.specs.Draws.{Draw};
-ghost use Rattle.esa_spec.specs.Traces.{trace, written_nonces, writes_in, writes_number};
+ghost use Rattle.esa_spec.specs.Traces.{trace, written_nonces, writes_in};
 
 /// No two writes of a run have the same nonce, whatever the turns and the coins.
 pub fn nonces_are_fresh()

@@ -4,7 +4,7 @@ use Rattle.std.specs.Prelude.{min, sum_by, true, false, Bool}
 use Rattle.std.proofs.Math.Nat.{mul-le-mul}
 use Rattle.std.proofs.lemmas.List.{map-append, length_push, take_all, get_or-replicate}
 use Rattle.std.proofs.lemmas.List.FromFn.{length-range_with_len}
-use Rattle.esa_params.specs.Sizes.{Sizes, ArePlanned, share, first, size, below, places_of}
+use Rattle.esa_params.specs.Sizes.{Sizes, ArePlanned, first, size, below, places_of}
 use Rattle.esa_laws.proofs.LineLaws.{length-batches, backlog-push}
 use Rattle.esa_laws.proofs.PlaceLaws.{length-chosen}
 use Rattle.esa_laws.proofs.QueueLaws.{joined-append, waiting-le-arrived}
@@ -18,13 +18,7 @@ use Rattle.esa_spec.specs.Queue.{joined, arrived}
 use Rattle.esa_spec.specs.Turns.{order}
 use Rattle.esa_model.specs.Passed.{Passed, AreFew, AreLines, AreLinesOf, AreCounted, HaveLeft, IsExchanged, occurrences, staying, all_staying, none_passed}
 
--- the places of a bucket are no more than those of the first one, and few
-pub size-first : (p : Sizes) (j : ℕ) → size p j ≤ size p 0
-size-first p j =
-    let next : (j + 1) * share p ≡ j * share p + share p = omega arith in
-    let one : (0 + 1) * share p ≡ share p = omega arith in
-    omega arith
-
+-- a bucket has no more places than there are
 pub size-le : (p : Sizes) (j : ℕ) → size p j ≤ p.n
 size-le p j = omega arith
 

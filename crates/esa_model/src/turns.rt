@@ -7,7 +7,7 @@ ghost use Rattle.esa_spec.specs.Files.{turns_bytes};
 
 use crate::draft::Draft;
 use crate::word::word_of;
-use esa_bytes::line_at;
+use esa_bytes::split_line;
 use std::alloc::{AllocError, Global};
 use std::marker::Model;
 
@@ -92,14 +92,14 @@ impl Turns {
         ensures workers { IfOk result (AreWorkers workers) }
     {
         let mut draft = Draft::begin(alloc);
-        let mut at = 0;
+        let mut rest = bytes;
         let mut number = 1;
-        while let Some(line) = line_at(bytes, at) {
-            match word_of(&bytes[line.start..line.end], workers) {
+        while let Some((line, behind)) = split_line(rest) {
+            match word_of(line, workers) {
                 Some(word) if draft.can_take(word, attempts) => draft.take(word, attempts)?,
                 _ => return Err(TurnsRefused::Line(number)),
             }
-            at = line.next;
+            rest = behind;
             number += 1;
         }
         Ok(draft.finish()?)

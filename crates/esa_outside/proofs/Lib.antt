@@ -1,3 +1,3 @@
 mod FilesOf
 mod Fronts
-mod Walks
+pub mod Fieldless

@@ -43,13 +43,16 @@ pub trait Records {
 
     /// How many records there are.
     fn count(&self) -> u32
-        ensures count { result ≡ count self.now }
-        ensures told { (records : List (List ℕ)) → told self.now ≡ Some records → length records ≡ result };
+        ensures { result ≡ count self.now };
 
     /// The length of each record, in bytes.
     fn size(&self) -> u32
-        ensures size { result ≡ size self.now }
-        ensures told { (records : List (List ℕ)) → told self.now ≡ Some records → All (λ bytes. length bytes ≡ result) records };
+        ensures { result ≡ size self.now };
+
+    /// A law of every list of records: where they are told, they are `count` many of `size` bytes.
+    fn told_as_counted(&self)
+        ensures number { (records : List (List ℕ)) → told self.now ≡ Some records → length records ≡ count self.now }
+        ensures length { (records : List (List ℕ)) → told self.now ≡ Some records → All (λ bytes. length bytes ≡ size self.now) records };
 
     /// Fills `out` with the records from the place `first` on, one after another. With an empty `out` it
     /// does not fail.

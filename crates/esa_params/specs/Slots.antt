@@ -1,5 +1,5 @@
 -- The blocks of the external memory: which there are, their numbers, lengths and nonces, and the accesses to them.
-use Rattle.std.specs.Prelude.{ℕ, ◌+◌, ◌-◌, ◌*◌, ◌^◌, ◌<◌, nat_lt, if◌then◌else◌, map, sum}
+use Rattle.std.specs.Prelude.{ℕ, ◌+◌, ◌-◌, ◌*◌, ◌^◌, ◌<◌, Bool, true, false, ◌&&◌, ◌==◌, nat_lt, if◌then◌else◌, map, sum}
 use Rattle.esa_params.specs.Form.{body_length, envelope_length}
 use Rattle.esa_params.specs.Sizes.{Sizes, size, below}
 use Rattle.esa_params.specs.declared.form.Form.{Form}
@@ -7,6 +7,7 @@ use Rattle.esa_params.specs.declared.slot.Region.{Region}
 use Rattle.esa_params.specs.declared.slot.Region.TheVariants.{Input, Mid, Tail, Output}
 use Rattle.esa_params.specs.declared.slot.Slot.{Slot}
 use Rattle.esa_params.specs.declared.slot.Op.{Op}
+use Rattle.esa_params.specs.declared.slot.Op.TheVariants.{Read, Write}
 use Rattle.esa_params.specs.declared.slot.Access.{Access}
 
 -- the slot at an index of a region
@@ -89,6 +90,19 @@ access_of p attempt op slot = record {
   nonce = nonce_of p attempt slot;
   attempt = attempt;
 }
+
+-- the number of the slot that an access is to
+abbrev pub slot_number : Sizes → Access → ℕ
+slot_number p access = number_of p (at access.region access.index)
+
+-- an operation writes
+abbrev pub is_writing : Op → Bool
+is_writing Read = false
+is_writing Write = true
+
+-- an access writes the slot that has this number
+abbrev pub writes_number : Sizes → ℕ → Access → Bool
+writes_number p number access = is_writing access.op && slot_number p access == number
 
 -- the most accesses that a shuffle makes: the load, the attempts, and two scans of the output
 abbrev pub greatest_trace : Sizes → ℕ

@@ -1,7 +1,7 @@
 -- The accesses of a shuffle, in their order: a function of the sizes, the targets and the turns.
 use Rattle.std.specs.Prelude.{ℕ, zero, suc, ◌+◌, ◌*◌, Bool, true, false, ◌&&◌, ◌==◌, if◌then◌else◌, Option, Some, None, unwrap_or, List, [], ◌∷◌, ◌++◌, map, filter_map}
 use Rattle.esa_params.specs.Sizes.{Sizes, below}
-use Rattle.esa_params.specs.Slots.{at, number_of, access_of}
+use Rattle.esa_params.specs.Slots.{at, access_of, writes_number}
 use Rattle.esa_params.specs.declared.slot.Region.TheVariants.{Input, Mid, Tail, Output}
 use Rattle.esa_params.specs.declared.slot.Slot.{Slot}
 use Rattle.esa_params.specs.declared.slot.Op.{Op}
@@ -141,15 +141,6 @@ written_nonce access = nonce_by access.op access.nonce
 abbrev pub written_nonces : List Access → List ℕ
 written_nonces accesses = filter_map written_nonce accesses
 
--- an operation writes
-abbrev pub is_writing : Op → Bool
-is_writing Reads = false
-is_writing Writes = true
-
--- an access writes the slot that has this number
-abbrev pub writes_number : Sizes → ℕ → Access → Bool
-writes_number p number access = is_writing access.op && number_of p (at access.region access.index) == number
-
--- so it does in attempt a
+-- an access writes the slot that has this number, in attempt a
 abbrev pub writes_in : Sizes → ℕ → ℕ → Access → Bool
 writes_in p a number access = writes_number p number access && access.attempt == a

@@ -6,6 +6,7 @@ use Rattle.std.proofs.lemmas.List.Folds.{fold-map}
 use Rattle.std.proofs.lemmas.List.Concat.{flat_map-append}
 use Rattle.std.proofs.lemmas.List.FromFn.{get_or-map-range_with_len, fill_by_all, length-map-range_with_len}
 use Rattle.std.proofs.lemmas.Bool.{cases_eq, eq-eqb, ne_eqb}
+use Rattle.esa_laws.proofs.PlaceLaws.{length-chosen}
 use Rattle.esa_laws.proofs.QueueLaws.{queue-push, leaving-push, waiting-push, length-queue}
 use Rattle.esa_stash.specs.Sizes.{below}
 use Rattle.esa_stash.specs.Draws.{chosen}
@@ -18,7 +19,7 @@ use Rattle.esa_stash.specs.Dealing.{queue_of, line_after, left_of, left_after, a
 use Rattle.esa_stash.proofs.Partitions.{occurrences-cons}
 use Rattle.esa_stash.proofs.Rising.{occurrences-range, map-replicate}
 use Rattle.esa_stash.proofs.TotalLemmas.{sum_by-below, range-more}
-use Rattle.esa_stash.proofs.Lines.{sum_by-same, sum_by-least, queues_are, queued_together, length-chosen}
+use Rattle.esa_stash.proofs.Lines.{sum_by-same, sum_by-least, queues_are, queued_together}
 use Rattle.esa_stash.proofs.Drawing.{queue_of_chain}
 use Rattle.esa_stash.proofs.Dealt.{free_cells}
 use Rattle.esa_stash.proofs.Rows.{joined_chunks}
@@ -184,7 +185,7 @@ module _ (arena : Arena) (c b : ℕ) (ts : List ℕ) (xs : List Item) (chains : 
   one_left : (i : ℕ) → i < b → left_after arena c (map (arrivals ts) (below b)) i ≡ left_of c (line_after arena ts xs) i
   one_left i inside =
       let chain = ap length (queue_of_chain arena i (omega arith)) ∙ length-map (chain_at arena i) (λ (held : ℕ × Item). held.1) in
-      let came = length-chosen i ts xs each in
+      let came : length (chosen i ts xs) ≡ arrivals ts i = length-chosen i ts xs (sym each) in
       let read = get_or-map-range_with_len (arrivals ts) 0 b i i 0 inside (omega arith) in
       let shorter = length-drop c (line_after arena ts xs i) in
       let long = length-append (queue_of arena i) (chosen i ts xs) in
@@ -203,7 +204,7 @@ module _ (arena : Arena) (c b : ℕ) (ts : List ℕ) (xs : List Item) (chains : 
       let least = sum_by-least (left_of c (line_after arena ts xs)) (λ i. length (queue_of arena i) + arrivals ts i) b (λ i.
       let shorter = length-drop c (line_after arena ts xs i) in
       let long = length-append (queue_of arena i) (chosen i ts xs) in
-      let came = length-chosen i ts xs each in
+      let came : length (chosen i ts xs) ≡ arrivals ts i = length-chosen i ts xs (sym each) in
       omega arith)
       in
       omega arith

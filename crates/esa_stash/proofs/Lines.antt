@@ -9,8 +9,7 @@ use Rattle.esa_stash.specs.Draws.{chosen}
 use Rattle.esa_report.specs.declared.item.Item.{Item}
 use Rattle.esa_report.specs.Item.{dummy_item}
 use Rattle.esa_stash.specs.Arena.{Arena, queues_of, items_in}
-use Rattle.esa_stash.specs.Dealing.{queue_of, line_after, left_of, with_item, IsDealt, AreDealt, arrivals}
-use Rattle.esa_stash.proofs.Partitions.{occurrences-cons}
+use Rattle.esa_stash.specs.Dealing.{queue_of, line_after, left_of, with_item, IsDealt, AreDealt}
 use Rattle.esa_stash.proofs.TotalLemmas.{sum_by-below}
 
 -- the chosen of two lists, one behind the other
@@ -23,16 +22,6 @@ chosen-append i (t ∷ ts) us (x ∷ xs) ys long = both (eqb t i) (chosen-append
     both : (b : Bool) → chosen i (ts ++ us) (xs ++ ys) ≡ chosen i ts xs ++ chosen i us ys → cond b (x ∷ chosen i (ts ++ us) (xs ++ ys)) (chosen i (ts ++ us) (xs ++ ys)) ≡ cond b (x ∷ chosen i ts xs) (chosen i ts xs) ++ chosen i us ys
     both true rest = ap (λ (l : List Item). x ∷ l) rest
     both false rest = rest
-
--- as many as there are targets of that number
-pub length-chosen : (i : ℕ) (ts : List ℕ) (xs : List Item) → length xs ≡ length ts → length (chosen i ts xs) ≡ arrivals ts i
-length-chosen i [] xs long = refl
-length-chosen i (t ∷ ts) [] long = absurd (omega arith)
-length-chosen i (t ∷ ts) (x ∷ xs) long = count (eqb t i) (length-chosen i ts xs (omega arith)) ∙ sym (occurrences-cons i t ts)
-  where
-    count : (b : Bool) → length (chosen i ts xs) ≡ arrivals ts i → length (cond b (x ∷ chosen i ts xs) (chosen i ts xs)) ≡ cond b 1 0 + arrivals ts i
-    count true rest = omega arith
-    count false rest = omega arith
 
 -- sums over the same numbers
 pub sum_by-same : (f g : ℕ → ℕ) (n : ℕ) → ((i : ℕ) → i < n → f i ≡ g i) → sum_by f (below n) ≡ sum_by g (below n)

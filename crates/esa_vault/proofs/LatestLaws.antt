@@ -7,17 +7,17 @@ use Rattle.std.proofs.lemmas.List.{reverse-append}
 use Rattle.esa_envelope.specs.declared.keys.Keys.{Keys}
 use Rattle.esa_envelope.specs.declared.label.Label.TheVariants.{Block}
 use Rattle.esa_envelope.specs.Envelope.{sealed_as}
+use Rattle.esa_params.specs.Slots.{slot_number, writes_number}
 use Rattle.esa_params.specs.Sizes.{Sizes}
 use Rattle.esa_params.specs.declared.slot.Access.{Access}
 use Rattle.esa_params.specs.declared.slot.Op.TheVariants.{Read, Write}
-use Rattle.esa_device.specs.Logs.{slot_number, writes_to}
 use Rattle.esa_device.proofs.LogLaws.{get-set_other, get-set_same, reads_nothing, writes_elsewhere, writes_here}
 use Rattle.esa_vault.specs.Latest.{AllHoldLatest, AllToldLatest, HoldsLatest, latest_write}
 
 -- by whether the last access writes the slot
 pub latest-push : (p : Sizes) (number : ℕ) (accesses : List Access) (access : Access)
-    → latest_write p number (accesses ++ access ∷ []) ≡ (if writes_to p number access then Some access else latest_write p number accesses)
-latest-push p number accesses access = ap (find (writes_to p number)) (reverse-append accesses (access ∷ []))
+    → latest_write p number (accesses ++ access ∷ []) ≡ (if writes_number p number access then Some access else latest_write p number accesses)
+latest-push p number accesses access = ap (find (writes_number p number)) (reverse-append accesses (access ∷ []))
 
 pub latest-read : (p : Sizes) (number : ℕ) (accesses : List Access) (access : Access) → access.op ≡ Read
     → latest_write p number (accesses ++ access ∷ []) ≡ latest_write p number accesses

@@ -4,13 +4,13 @@ use Rattle.std.specs.Prelude.{OnOk, if◌then◌else◌}
 use Rattle.std.proofs.lemmas.Bool.{cases_Bool}
 use Rattle.std.proofs.lemmas.Bool.Decides.{nat_tests}
 use Rattle.std.proofs.lemmas.List.{map-append}
-use Rattle.esa_device.specs.Logs.{Carried, HoldsWritten, Took, carried_by, slot_number, writes_to}
+use Rattle.esa_device.specs.Logs.{Carried, HoldsWritten, Took, carried_by}
 use Rattle.esa_device.proofs.LogLaws.{reads_nothing, took-elsewhere, took-read, took-written, writes_elsewhere, writes_here}
 use Rattle.esa_envelope.specs.declared.keys.Keys.{Keys}
 use Rattle.esa_envelope.specs.declared.label.Label.TheVariants.{Block}
 use Rattle.esa_envelope.specs.Envelope.{sealed_as}
 use Rattle.esa_params.specs.Sizes.{Sizes}
-use Rattle.esa_params.specs.Slots.{access_of, nonce_of, number_of}
+use Rattle.esa_params.specs.Slots.{access_of, nonce_of, number_of, slot_number, writes_number}
 use Rattle.esa_params.specs.declared.slot.Access.{Access}
 use Rattle.esa_params.specs.declared.slot.Op.TheVariants.{Read, Write}
 use Rattle.esa_params.specs.declared.slot.Slot.{Slot}
@@ -24,14 +24,14 @@ accesses-push log last = map-append (λ (entry : Carried). entry.access) log (la
 
 -- the latest write once a log is longer by one
 latest-noted : (p : Sizes) (number : ℕ) (log : List Carried) (last : Carried)
-    → latest_write p number (accesses_of (log ++ last ∷ [])) ≡ (if writes_to p number last.access then Some last.access else latest_write p number (accesses_of log))
+    → latest_write p number (accesses_of (log ++ last ∷ [])) ≡ (if writes_number p number last.access then Some last.access else latest_write p number (accesses_of log))
 latest-noted p number log last = ap (latest_write p number) (accesses-push log last) ∙ latest-push p number (accesses_of log) last.access
 
 pub took-nothing : (p : Sizes) (keys : Keys) (text : Access → List ℕ) (but : Option ℕ) → AllTookLatest p keys text [] but
 took-nothing p keys text but number planned other access none = cc none
 
 -- a slot that the last access doesn't write
-unwritten : (p : Sizes) (keys : Keys) (text : Access → List ℕ) (log : List Carried) (last : Carried) (number : ℕ) → writes_to p number last.access ≡ false
+unwritten : (p : Sizes) (keys : Keys) (text : Access → List ℕ) (log : List Carried) (last : Carried) (number : ℕ) → writes_number p number last.access ≡ false
     → ((bytes : List ℕ) → Took p number bytes log → Took p number bytes (log ++ last ∷ []))
     → TookLatest p keys text log number → TookLatest p keys text (log ++ last ∷ []) number
 unwritten p keys text log last number none keeps took access latest =

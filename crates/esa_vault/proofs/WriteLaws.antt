@@ -5,7 +5,7 @@ use Rattle.std.proofs.lemmas.Bool.{cases_Bool}
 use Rattle.std.proofs.lemmas.Bool.Decides.{nat_tests}
 use Rattle.std.proofs.lemmas.List.{reverse-append}
 use Rattle.std.proofs.lemmas.List.Elements.{Contains-push_cases}
-use Rattle.esa_device.specs.Logs.{is_write, slot_number, writes_to}
+use Rattle.esa_params.specs.Slots.{slot_number, is_writing, writes_number}
 use Rattle.esa_params.specs.Sizes.{Sizes}
 use Rattle.esa_params.specs.declared.slot.Access.{Access}
 use Rattle.esa_params.specs.declared.slot.Op.{Op}
@@ -23,7 +23,7 @@ find-append test (x ∷ xs) ys = elim (cases_Bool (test x)) [
 pub latest-append : (p : Sizes) (number : ℕ) (accesses more : List Access) → latest_write p number (accesses ++ more)
     ≡ (if is_some (latest_write p number more) then latest_write p number more else latest_write p number accesses)
 latest-append p number accesses more =
-    ap (find (writes_to p number)) (reverse-append accesses more) ∙ find-append (writes_to p number) (reverse more) (reverse accesses)
+    ap (find (writes_number p number)) (reverse-append accesses more) ∙ find-append (writes_number p number) (reverse more) (reverse accesses)
 
 -- what is found passes
 find-passes : {X : Type 0} (test : X → Bool) (xs : List X) (found : X) → find test xs ≡ Some found → test found ≡ true
@@ -37,21 +37,21 @@ find-passes test (x ∷ xs) found is = elim (cases_Bool (test x)) [
       find-passes test xs found (sym rest ∙ is)
 ]
 
-writes-slot : (op : Op) (at : Bool) → (is_write op && at) ≡ true → op ≡ Write
+writes-slot : (op : Op) (at : Bool) → (is_writing op && at) ≡ true → op ≡ Write
 writes-slot Read at is = cc is
 writes-slot Write at is = refl
 
-at-slot : (op : Op) (at : Bool) → (is_write op && at) ≡ true → at ≡ true
+at-slot : (op : Op) (at : Bool) → (is_writing op && at) ≡ true → at ≡ true
 at-slot Read at is = cc is
 at-slot Write at is = is
 
 pub latest-writes : (p : Sizes) (number : ℕ) (accesses : List Access) (access : Access) → latest_write p number accesses ≡ Some access → access.op ≡ Write
 latest-writes p number accesses access is =
-    writes-slot access.op (slot_number p access == number) (find-passes (writes_to p number) (reverse accesses) access is)
+    writes-slot access.op (slot_number p access == number) (find-passes (writes_number p number) (reverse accesses) access is)
 
 pub latest-names : (p : Sizes) (number : ℕ) (accesses : List Access) (access : Access) → latest_write p number accesses ≡ Some access → slot_number p access ≡ number
 latest-names p number accesses access is =
-    let same = at-slot access.op (slot_number p access == number) (find-passes (writes_to p number) (reverse accesses) access is) in
+    let same = at-slot access.op (slot_number p access == number) (find-passes (writes_number p number) (reverse accesses) access is) in
     grind (arith, nat_tests)
 
 further : {X : Type 0} (y : X) (ys : List X) (x : X) → Contains ys x → Contains (y ∷ ys) x
@@ -78,4 +78,4 @@ contains-reverse (y ∷ ys) x there =
     ]
 
 pub latest-stands : (p : Sizes) (number : ℕ) (accesses : List Access) (access : Access) → latest_write p number accesses ≡ Some access → Contains accesses access
-latest-stands p number accesses access is = contains-reverse accesses access (contains-found (writes_to p number) (reverse accesses) access is)
+latest-stands p number accesses access is = contains-reverse accesses access (contains-found (writes_number p number) (reverse accesses) access is)

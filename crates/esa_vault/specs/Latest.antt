@@ -1,16 +1,16 @@
 -- Which seal stands in a slot after a list of accesses.
 use Rattle.std.specs.Prelude.{◌≡◌, ◌≢◌, ℕ, ◌<◌, Option, Some, None, List, find, map, reverse, slice_get}
-use Rattle.esa_device.specs.Logs.{Carried, Took, writes_to}
+use Rattle.esa_device.specs.Logs.{Carried, Took}
 use Rattle.esa_envelope.specs.declared.keys.Keys.{Keys}
 use Rattle.esa_envelope.specs.declared.label.Label.TheVariants.{Block}
 use Rattle.esa_envelope.specs.Envelope.{sealed_as}
 use Rattle.esa_params.specs.Sizes.{Sizes}
-use Rattle.esa_params.specs.Slots.{slots_of}
+use Rattle.esa_params.specs.Slots.{slots_of, writes_number}
 use Rattle.esa_params.specs.declared.slot.Access.{Access}
 
 -- the last of the accesses that writes the slot of this number
 abbrev pub latest_write : Sizes → ℕ → List Access → Option Access
-latest_write p number accesses = find (writes_to p number) (reverse accesses)
+latest_write p number accesses = find (writes_number p number) (reverse accesses)
 
 -- where accesses write the slot of this number, it holds the seal of the latest write. What each write seals is given
 abbrev pub HoldsLatest : Sizes → Keys → (Access → List ℕ) → List (List ℕ) → List Access → ℕ → Type 0

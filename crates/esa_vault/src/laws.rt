@@ -9,7 +9,7 @@ ghost use Rattle.esa_envelope.specs.declared.label.Label.{Label};
 ghost use Rattle.esa_params.specs.Form.{envelope_length};
 ghost use Rattle.esa_params.specs.Sizes.{Sizes, ArePlanned};
 ghost use Rattle.esa_params.specs.declared.form.Form.{Form};
-ghost use Rattle.esa_params.specs.Slots.{IsPlanned, access_of, item_length, nonce_of, number_of, slots_of};
+ghost use Rattle.esa_params.specs.Slots.{IsPlanned, access_of, item_length, nonce_of, number_of, slots_of, slot_number, writes_number};
 ghost use Rattle.esa_params.specs.declared.slot.Access.{Access};
 ghost use Rattle.esa_params.specs.declared.slot.Op.{Op};
 ghost use Rattle.esa_params.specs.declared.slot.Region.{Region};
@@ -20,7 +20,7 @@ ghost use Rattle.esa_vault.specs.Seals.{is_text_of, opens, sealed_block, text_in
 ghost use Rattle.esa_vault.specs.Filled.{bytes_at, is_filled, suits, text_of};
 ghost use Rattle.esa_vault.specs.Items.{item_of};
 ghost use Rattle.esa_vault.specs.Latest.{AllHoldLatest, AllToldLatest, AllTookLatest, HoldsLatest, ToldLatest, TookLatest, accesses_of, latest_write};
-ghost use Rattle.esa_device.specs.Logs.{Carried, HoldsWritten, Took, carried_by, slot_number, writes_to};
+ghost use Rattle.esa_device.specs.Logs.{Carried, HoldsWritten, Took, carried_by};
 ghost use Rattle.esa_vault.specs.Traffic.{Stores};
 ghost use Rattle.esa_vault.specs.declared.fault.VaultFault.{VaultFault};
 ghost use Rattle.esa_vault.specs.Placed.{IsHeld, IsSpelled};
@@ -153,7 +153,7 @@ pub fn one_read_more()
 pub fn one_write_more()
     ensures latest { (p : Sizes) (number : ℕ) (accesses : List Access) (access : Access)
         → access.op ≡ Op.Write → latest_write p number (accesses ++ access ∷ [])
-        ≡ (if writes_to p number access then Some access else latest_write p number accesses) }
+        ≡ (if writes_number p number access then Some access else latest_write p number accesses) }
     ensures holds { (p : Sizes) (keys : Keys) (text : Access → List ℕ) (held : List (List ℕ)) (accesses : List Access) (access : Access)
         → access.op ≡ Op.Write → slot_number p access < length held → AllHoldLatest p keys text held accesses
         → AllHoldLatest p keys text (slice_set held (slot_number p access) (sealed_as keys Label.Block access.nonce (text access))) (accesses ++ access ∷ []) }

@@ -1,16 +1,16 @@
-use Rattle.std.proofs.Common.{◌/◌, ◌≤◌, length, arith, ◌∙◌}
+use Rattle.std.proofs.Common.{◌/◌, ◌≤◌, length, arith, sym, ◌∙◌}
 use Rattle.esa_batcher.proofs.OrderLaws.{order_further, order_found, order_last, room_two}
 use Rattle.esa_batcher.proofs.order.scan_order.Goals as goal
 
 pub returns-in-Some-clause-order : goal.returns-in-Some-clause-order
 returns-in-Some-clause-order g c = λ records told.
-    let room : 2 ≤ length c.args.buffer.now / c.size.result = room_two c.size.result _ (length c.args.buffer.now) c.size.ensures.size c.requires.size c.requires.room in
+    let room : 2 ≤ length c.args.buffer.now / c.size.result = room_two c.size.result _ (length c.args.buffer.now) c.size.ensures c.requires.size c.requires.room in
     let two : 2 ≤ c.lesser-number.result = omega (arith, c.lesser-number.ensures) in
     order_found c.loop-first.first c.lesser-number.result records two (c.loop-first.invariant.order records told) _ (c.in_ok-fall.ensures.order records (c.loop-first.invariant.told ∙ told)) _ c.in-Some.is
 
 pub loop-first-preserved : goal.loop-first-preserved
 loop-first-preserved g c =
-    let room : 2 ≤ length c.args.buffer.now / c.size.result = room_two c.size.result _ (length c.args.buffer.now) c.size.ensures.size c.requires.size c.requires.room in
+    let room : 2 ≤ length c.args.buffer.now / c.size.result = room_two c.size.result _ (length c.args.buffer.now) c.size.ensures c.requires.size c.requires.room in
     let two : 2 ≤ c.lesser-number.result = omega (arith, c.lesser-number.ensures) in
     record {
       within = omega (arith, c.lesser-number.ensures, c.loop-first.invariant.within);
@@ -26,4 +26,4 @@ loop-first-preserved g c =
 
 pub returns-clause-order : goal.returns-clause-order
 returns-clause-order g c = λ records told.
-    order_last c.loop-first.first c.count-count.result records (c.count-count.ensures.told records told) (omega (arith, c.loop-first-test.false)) (c.loop-first.invariant.order records told)
+    order_last c.loop-first.first c.count-count.result records (c.told_as_counted.ensures.number records told ∙ sym c.count-count.ensures) (omega (arith, c.loop-first-test.false)) (c.loop-first.invariant.order records told)

@@ -6,7 +6,6 @@ pub loop-place-preserved : goal.loop-place-preserved
 loop-place-preserved c =
     let so = c.loop-place.invariant in
     record {
-      inside = c.in-Some.ensures.within;
       full = length-set c.loop-place.entries c.loop-place.place c.in-Some.number ∙ so.full;
       so_far = one_more _ _ _ _ _ _ c.loop-place-test.true so.full so.so_far c.in-Some.ensures.value c.in-Some.ensures.rest;
     }
@@ -16,14 +15,14 @@ returns-in-None-clause-err c =
     let so = c.loop-place.invariant in
     bad_line _ _ _ _ c.loop-place-test.true so.full so.so_far c.in-None.ensures.value
 
-pub returns-in-Some-line_at-clause-err : goal.returns-in-Some-line_at-clause-err
-returns-in-Some-line_at-clause-err c =
+pub returns-in-Some-split_line-clause-err : goal.returns-in-Some-split_line-clause-err
+returns-in-Some-split_line-clause-err c =
     let so = c.loop-place.invariant in
     let last : c.loop-place.place ≡ 256 = omega arith in
-    another_line _ _ _ _ _ _ last so.full so.so_far c.in-Some-line_at.ensures.lines
+    another_line _ _ _ _ _ _ last so.full so.so_far c.in-Some-split_line.ensures.lines
 
-pub returns-in-None-line_at-clause-ok : goal.returns-in-None-line_at-clause-ok
-returns-in-None-line_at-clause-ok c =
+pub returns-in-None-split_line-clause-ok : goal.returns-in-None-split_line-clause-ok
+returns-in-None-split_line-clause-ok c =
     let so = c.loop-place.invariant in
     let last : c.loop-place.place ≡ 256 = omega arith in
-    whole_table _ _ _ _ last so.full so.so_far c.in-None-line_at.ensures.last
+    whole_table _ _ _ _ last so.full so.so_far c.in-None-split_line.ensures.last

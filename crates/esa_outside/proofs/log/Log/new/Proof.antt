@@ -23,7 +23,7 @@ use denote.Triple.Entry.{alive}
 use denote.Triple.Spec.{Meets, triple_of}
 use denote.Triple.Table.{entered}
 use denote.Triple.Walked.{says, Stays, walk_of, ends_at, walk_Meets}
-use Rattle.esa_outside.proofs.Walks.{none, none_made}
+use Rattle.esa_outside.proofs.Fieldless.{none, none_made}
 use Rattle.esa_outside.specs.contracts.log.Log as Log
 use Rattle.esa_outside.specs.contracts.log.Log.new as F
 use Rattle.esa_outside.specs.contracts.log.Log.new.Key.{name as #self}

@@ -1,6 +1,6 @@
 use Rattle.std.proofs.Common.{◌≡◌, length, ◌+◌, ◌≤◌}
 use Rattle.esa_bytes.specs.Lines.{text_lines}
-use Rattle.esa_line.proofs.lines.line_count.Given as goal
+use Rattle.esa_bytes.proofs.line.line_count.Given as goal
 
 abbrev pub invariant-loop-behind : goal.invariant-loop-behind
 invariant-loop-behind l = record {
