@@ -1,11 +1,9 @@
 -- What a job that is acceptable has at its fields.
-use Rattle.std.proofs.Common.{◌≡◌, ℕ, zero, suc, ◌≤◌, ◌<◌, ◌^◌, arith, Bool, true, false, ◌&&◌, not, cond, List, [], ◌∷◌, length, map, slice_get, Option, Some, None, is_some, find, option_map, option_and_then, IfSome, IsSome, refl, ap, ◌∙◌, sym, subst, unwrap_or, nat_le}
-use Rattle.std.specs.List.{AllByRecursion, list_all, filter_map, cons_option}
+use Rattle.std.proofs.Common.{◌≡◌, ℕ, ◌≤◌, ◌<◌, ◌^◌, arith, Bool, true, false, ◌&&◌, not, cond, List, [], ◌∷◌, Option, Some, None, is_some, find, option_map, option_and_then, IfSome, IsSome, refl, ap, ◌∙◌, sym, subst, nat_le}
+use Rattle.std.specs.List.{AllByRecursion}
 use Rattle.std.specs.Option.{option_or, option_map_or}
 use Rattle.std.proofs.lemmas.Bool.{leb-true}
-use Rattle.std.proofs.lemmas.Option.{slice_get-map}
 use Rattle.serde_json.specs.Data.{Data}
-use Rattle.esa_json.specs.Values.{values_in}
 use Rattle.esa_params.specs.Limits.{is_from, first_past}
 use Rattle.esa_job.specs.declared.field.JobField.{JobField}
 use Rattle.esa_job.specs.declared.field.JobField.TheVariants.{Job, Keys, Input, Inputs, Output, Trace, Turns, TurnsOut, Drops, Coins, Seed, Draw, Records, Crowds, Number, NonceBase, Form, Epoch, Shares, B, C, S, K, W, Q, Workers, Attempts, M, T, Mode}
@@ -13,12 +11,12 @@ use Rattle.esa_job.specs.declared.field.Kind.TheVariants as kind
 use Rattle.esa_job.specs.declared.field.Need.{Need}
 use Rattle.esa_job.specs.declared.field.Need.TheVariants.{Unused, Optional, Needed}
 use Rattle.esa_job.specs.Refusal.{IsAcceptable, is_missing, is_ill_typed, is_bad, first_bad, is_outside, is_past, param_of, params_of, first_param_past, first_other_past}
-use Rattle.esa_job.specs.Request.{Request, is_used, is_needed, value_at, is_there, name_at, number_at, mode_at, list_at, inputs_at}
+use Rattle.esa_job.specs.Request.{Request, is_used, is_needed, value_at, is_there, name_at, number_at, mode_at}
 use Rattle.esa_job.specs.Table.{fields, limited_fields, kind_of, limits_of, need_of}
 use Rattle.esa_job.specs.declared.table.Limits.{Limits}
-use Rattle.esa_job.proofs.Outcomes.{both_false, both_true, not-false, not_chosen, is_none-none, none_found}
+use Rattle.esa_job.proofs.Outcomes.{both_false, both_true, not-false, is_none-none, none_found}
 use Rattle.esa_json.specs.Values.{number_in}
-use Rattle.esa_job.specs.Values.{name_in, mode_in, is_name, is_name_list, holds_names}
+use Rattle.esa_job.specs.Values.{name_in, mode_in}
 
 -- ---- no field is bad
 
@@ -188,37 +186,3 @@ small job accepted field number limited is = known (limits_of field) limited (wi
 pub is_some-before : {A B : Type 0} (f : A → B) (found : Option A) (seen : Option B) → option_map f found ≡ seen → IsSome seen → IsSome found
 is_some-before f None seen is some = ap is_some is ∙ some
 is_some-before f (Some x) seen is some = refl
-
--- ---- inputs
-
-slice_get-filter_map : {A B : Type 0} (read : A → Option B) (values : List A) (place : ℕ) → list_all (λ value. is_some (read value)) values ≡ true → slice_get (filter_map read values) place ≡ option_and_then read (slice_get values place)
-slice_get-filter_map read [] place named = refl
-slice_get-filter_map read (value ∷ values) zero named = first (read value) (filter_map read values) (both_true _ _ named).0
-  where
-    first : {B : Type 0} (found : Option B) (rest : List B) → is_some found ≡ true → slice_get (cons_option found rest) zero ≡ found
-    first None rest some = cc
-    first (Some x) rest some = refl
-slice_get-filter_map read (value ∷ values) (suc place) named =
-    later (read value) (filter_map read values) place (both_true _ _ named).0 ∙ slice_get-filter_map read values place (both_true _ _ named).1
-  where
-    later : {B : Type 0} (found : Option B) (rest : List B) (place : ℕ) → is_some found ≡ true → slice_get (cons_option found rest) (suc place) ≡ slice_get rest place
-    later None rest place some = cc
-    later (Some x) rest place some = refl
-
-inputs_named : (job : Request) → IsAcceptable job → list_all is_name (list_at job) ≡ true
-inputs_named job accepted = known (value_at job Inputs) (good job accepted Inputs).typed
-  where
-    listed : (found : Option (List Data)) → not (option_map_or is_name_list found false) ≡ false → list_all is_name (unwrap_or found []) ≡ true
-    listed None typed = cc
-    listed (Some values) typed = (both_true (nat_le 1 (length values) && nat_le (length values) 16) _ (not-false _ typed)).1
-
-    known : (found : Option Data) → option_map_or (λ value. not (holds_names value)) found false ≡ false → list_all is_name (unwrap_or (option_and_then values_in found) []) ≡ true
-    known None typed = refl
-    known (Some value) typed = listed (values_in value) typed
-
--- the input at a place is the name that the value there is
-pub input_at : (job : Request) → IsAcceptable job → {V : Type 0} (view : V → Data) (values : List V) (place : ℕ) → map view values ≡ list_at job → slice_get (inputs_at job) place ≡ option_and_then name_in (option_map view (slice_get values place))
-input_at job accepted view values place is =
-    slice_get-filter_map name_in (list_at job) place (inputs_named job accepted)
-    ∙ ap (λ found. option_and_then name_in (slice_get found place)) (sym is)
-    ∙ ap (option_and_then name_in) (slice_get-map view values place)

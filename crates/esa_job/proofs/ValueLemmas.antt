@@ -1,5 +1,5 @@
 -- The values of a JSON list, and the names among them.
-use Rattle.std.proofs.Common.{◌≡◌, ℕ, Bool, false, ◌&&◌, ◌||◌, bytes_eq, List, [], ◌∷◌, map, length, nat_le, Option, Some, None, refl, ap, ◌∙◌, sym}
+use Rattle.std.proofs.Common.{◌≡◌, ℕ, Bool, false, ◌&&◌, ◌||◌, bytes_eq, List, [], ◌∷◌, map, length, nat_le, Option, Some, None, refl, ap, ◌∙◌}
 use Rattle.std.specs.List.{list_all, list_any, filter_map, cons_option}
 use Rattle.std.specs.Option.{option_map_or}
 use Rattle.std.proofs.lemmas.List.{length-map}

@@ -11,7 +11,9 @@ pub mod Rows
 pub mod Values
 pub mod Request
 pub mod Refusal
+pub mod Asked
 pub mod Draft
+pub mod Decoded
 pub mod Seen
 pub mod Keys
 pub mod Drops

@@ -9,7 +9,7 @@ use Rattle.esa_params.specs.declared.params as params
 use Rattle.esa_params.specs.declared.field.ParamField.{ParamField}
 use Rattle.esa_job.specs.declared.command.Command.{Command}
 use Rattle.esa_job.specs.declared.field.JobField.{JobField}
-use Rattle.esa_job.specs.declared.field.JobField.TheVariants.{Job, Keys, Input, Output, Trace, Turns, TurnsOut, Drops, Coins, Seed, Draw, Records, Crowds, Form, Epoch, Shares, B, C, S, K, W, Q, Workers, Attempts, M, T, Mode}
+use Rattle.esa_job.specs.declared.field.JobField.TheVariants.{Job, Keys, Input, Output, Trace, Turns, TurnsOut, Drops, Coins, Seed, Draw, B, C, S, K, W, Q, Workers, Attempts, Mode}
 use Rattle.esa_job.specs.declared.job.JobRefused.{JobRefused}
 use Rattle.esa_job.specs.declared.job.JobRefused.TheVariants as refused
 use Rattle.esa_job.specs.Request.{Request, is_used, is_needed, value_at, is_there, name_at, number_at, draw_at, mode_at, inputs_at}

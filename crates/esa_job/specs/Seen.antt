@@ -1,6 +1,6 @@
 -- What contracts see in a job.
 use Rattle.std.specs.Prelude.{◌≡◌}
-use Rattle.esa_job.specs.Draft.{drafted}
+use Rattle.esa_job.specs.Asked.{asked}
 use Rattle.esa_job.specs.Request.{Request}
 use Rattle.esa_job.specs.Table.{need_of}
 use Rattle.esa_job.specs.declared.field.JobField.{JobField}
@@ -9,7 +9,7 @@ use Rattle.esa_job.specs.declared.job.Job.{Job}
 
 -- what the job asks for
 abbrev pub request_of : Job → Request
-request_of job = drafted job.draft
+request_of job = asked job.command job.object.value
 
 -- the job's command needs the field
 abbrev pub Needs : Job → JobField → Type 0

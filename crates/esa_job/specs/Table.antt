@@ -1,5 +1,5 @@
 -- The table of a job's fields: one row for each.
-use Rattle.std.specs.Prelude.{ℕ, Bool, true, false, ◌==◌, List, [], ◌∷◌, codes, Option, Some, None, option_map, if◌then◌else◌}
+use Rattle.std.specs.Prelude.{ℕ, Bool, true, false, ◌==◌, List, [], ◌∷◌, codes, Option, Some, None, if◌then◌else◌}
 use Rattle.std.specs.List.{list_any}
 use Rattle.esa_params.specs.declared.field.ParamField.{ParamField}
 use Rattle.esa_params.specs.declared.field.ParamField.TheVariants as param

@@ -8,7 +8,7 @@ ghost use Rattle.esa_job.specs.Refusal.{is_ill_typed, is_missing, lacks_coins, d
 use crate::command::Command;
 use crate::field::{JobField, Need};
 use crate::job::JobRefused;
-use crate::value::{Mode, draw_in, key_in, mode_in, name_in};
+use crate::value::{Mode, draw_in, mode_in, name_in};
 use esa_json::{number_in, values_in};
 use esa_params::{Draw, ParamField, Params, check};
 use serde_json::Value;
@@ -21,7 +21,7 @@ pub(crate) struct Draft {
 }
 
 impl Draft {
-    ghost use Rattle.esa_job.specs.Request.{value_at, is_there, name_at, number_at, seed_at, draw_at, mode_at, list_at, inputs_at};
+    ghost use Rattle.esa_job.specs.Request.{value_at, is_there, name_at, number_at, draw_at, mode_at, list_at, inputs_at};
     ghost use Rattle.esa_job.specs.Draft.{drafted};
 
     // The value of a field: nothing where it isn't there, or where the command ignores it.
@@ -34,7 +34,7 @@ impl Draft {
         }
     }
 
-    pub(crate) fn has(&self, field: JobField) -> bool
+    fn has(&self, field: JobField) -> bool
         ensures { result ≡ is_there (drafted self.now) field }
     {
         self.value(field).is_some()
@@ -56,14 +56,14 @@ impl Draft {
     }
 
     // The name of a file.
-    pub(crate) fn name(&self, field: JobField) -> Option<&str>
+    fn name(&self, field: JobField) -> Option<&str>
         ensures { option_map (λ name. name.now) result ≡ name_at (drafted self.now) field }
     {
         name_in(self.value(field)?)
     }
 
     // A number.
-    pub(crate) fn number_of(&self, field: JobField) -> Option<u64>
+    fn number_of(&self, field: JobField) -> Option<u64>
         ensures { result ≡ number_at (drafted self.now) field }
     {
         number_in(self.value(field)?)
@@ -145,26 +145,20 @@ impl Draft {
 
     // ---- values
 
-    pub(crate) fn draw(&self) -> Option<Draw>
+    fn draw(&self) -> Option<Draw>
         ensures { result ≡ draw_at (drafted self.now) }
     {
         draw_in(self.value(JobField::Draw)?)
     }
 
-    pub(crate) fn mode(&self) -> Option<Mode>
+    fn mode(&self) -> Option<Mode>
         ensures { result ≡ mode_at (drafted self.now) }
     {
         mode_in(self.value(JobField::Mode)?)
     }
 
-    pub(crate) fn seed(&self) -> Option<[u8; 32]>
-        ensures { result ≡ seed_at (drafted self.now) }
-    {
-        key_in(self.value(JobField::Seed)?)
-    }
-
     // The values of the list of inputs.
-    pub(crate) fn inputs(&self) -> &[Value]
+    fn inputs(&self) -> &[Value]
         ensures { map view result.now ≡ list_at (drafted self.now) }
     {
         match self.value(JobField::Inputs) {

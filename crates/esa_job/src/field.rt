@@ -1,7 +1,7 @@
 //! The fields of a job, the order in which they are looked at, and what the table says of each.
 
-ghost use Rattle.std.specs.Prelude.{◌≡◌, ◌≤◌, length};
-ghost use Rattle.esa_job.specs.Table.{field_word, kind_of, limits_of, need_of};
+ghost use Rattle.std.specs.Prelude.{◌≡◌, ◌≤◌, length, slice_index_or};
+ghost use Rattle.esa_job.specs.Table.{field_word, kind_of, limits_of, need_of, fields};
 
 use crate::command::Command;
 use crate::table::Limits;
@@ -9,8 +9,6 @@ use crate::table::Limits;
 /// A field of a job, or the job as a whole.
 #[derive(Clone, Copy, PartialEq, Eq, Debug)]
 pub enum JobField {
-    /// The job itself: a JSON object.
-    Job,
     /// The file of keys.
     Keys,
     /// The file to read.
@@ -69,6 +67,8 @@ pub enum JobField {
     T,
     /// Whether turns are handed in or workers run.
     Mode,
+    /// The job itself: a JSON object.
+    Job,
 }
 
 /// The type that a field's value has to have.
@@ -152,6 +152,14 @@ impl JobField {
         JobField::Epoch,
         JobField::Shares,
     ];
+
+    /// The field's place in the order. The job itself has the place behind the last.
+    #[tactic(auto, unfolding(crate::specs::Table::fields))]
+    pub(crate) fn place(self) -> usize
+        ensures { slice_index_or fields result JobField.Job ≡ self }
+    {
+        self as usize
+    }
 
     /// The field's name: 1 to 10 bytes.
     pub fn word(self) -> &'static str

@@ -1,17 +1,21 @@
 //! Jobs: what a command is asked to do, read from a JSON object.
 
-ghost use Rattle.std.specs.Prelude.{◌≡◌, ◌≤◌};
-ghost use Rattle.esa_job.specs.Refusal.{IsAcceptable};
-ghost use Rattle.esa_job.specs.Draft.{drafted};
+ghost use Rattle.std.specs.Prelude.{◌≡◌, ◌≤◌, map, option_map};
+ghost use Rattle.esa_job.specs.Refusal.{IsAcceptable, params_of};
+ghost use Rattle.esa_job.specs.Decoded.{seen, meanings};
 ghost use Rattle.esa_job.specs.Values.{form_number};
+ghost use Rattle.esa_job.specs.Asked.{asked};
 
 use crate::command::Command;
+use crate::decoded::Decoded;
 use crate::draft::Draft;
 use crate::field::{JobField, Kind};
-use crate::value::{Mode, name_in};
+use crate::value::Mode;
 use esa_json::read_object;
-use esa_params::{Draw, Form, ParamField, Settings, check};
+use esa_params::{Draw, Form, ParamField, Params, Settings, check};
+use serde_json::Value;
 use std::alloc::Global;
+use std::snapshot::Snapshot;
 
 /// Why a job was refused.
 #[derive(Clone, Copy, PartialEq, Eq, Debug)]
@@ -27,14 +31,25 @@ pub enum JobRefused {
 /// What a command is asked to do.
 #[derive(Drop)]
 pub struct Job {
-    draft: Draft,
-    ghost acceptable: { IsAcceptable (drafted draft) },
+    command: Command,
+    /// What the value of each field stands for, in the order of the table.
+    decoded: Vec<Option<Decoded>>,
+    /// The parameters of a shuffle, as they are stated.
+    params: Params,
+    /// The object that it was read from, for clauses alone: it has no bytes.
+    object: Snapshot<Value>,
+    ghost acceptable: { IsAcceptable (asked command object.value) },
+    ghost kept: { map (option_map seen) decoded.items ≡ meanings (asked command object.value) },
+    ghost stated: { params ≡ params_of (asked command object.value) },
 }
 
 impl Job {
+    ghost use Rattle.std.specs.String.{string_bytes};
     ghost use Rattle.std.specs.Prelude.{◌⊎◌, IfOk, IfErr, IfSome, IsSome, option_map, slice_get};
     ghost use Rattle.esa_params.specs.Limits.{numbers_of};
-    ghost use Rattle.esa_job.specs.Refusal.{job_of, params_of};
+    ghost use Rattle.esa_job.specs.Decoded.{meaning_at};
+    ghost use Rattle.esa_job.specs.Draft.{drafted};
+    ghost use Rattle.esa_job.specs.Refusal.{job_of};
     ghost use Rattle.esa_job.specs.Request.{name_at, number_at, inputs_at, seed_at, draw_at, mode_at};
     ghost use Rattle.esa_job.specs.Seen.{request_of, Needs};
     ghost use Rattle.esa_job.specs.Table.{kind_of, limits_of};
@@ -64,7 +79,24 @@ impl Job {
         let draft = Draft { command, object };
         match draft.refusal(crew_allowed, job_name) {
             Some(refusal) => Err(refusal),
-            None => Ok(Job { draft }),
+            None => Job::keep(alloc, &draft),
+        }
+    }
+
+    /// The job of a draft that is not refused.
+    fn keep(alloc: Global, draft: &Draft) -> Result<Job, JobRefused>
+        requires { IsAcceptable (drafted draft.now) }
+        ensures ok { IfOk result (λ job. request_of job ≡ drafted draft.now) }
+        ensures err { IfErr result (λ e. e ≡ JobRefused.OutOfMemory) }
+    {
+        match draft.decode(alloc) {
+            Ok(decoded) => Ok(Job {
+                command: draft.command,
+                decoded,
+                params: draft.params(),
+                object: Snapshot::of(&draft.object),
+            }),
+            Err(_) => Err(JobRefused::OutOfMemory),
         }
     }
 
@@ -72,7 +104,7 @@ impl Job {
     pub fn command(&self) -> Command
         ensures { result ≡ (request_of self.now).command }
     {
-        self.draft.command
+        self.command
     }
 
     // ---- files
@@ -98,8 +130,8 @@ impl Job {
     pub fn inputs(&self, place: usize) -> Option<&str>
         ensures { option_map (λ name. name.now) result ≡ slice_get (inputs_at (request_of self.now)) place }
     {
-        match self.draft.inputs().get(place) {
-            Some(value) => name_in(value),
+        match self.input_names().get(place) {
+            Some(name) => Some(name.as_str()),
             None => None,
         }
     }
@@ -116,35 +148,35 @@ impl Job {
     pub fn trace(&self) -> Option<&str>
         ensures { option_map (λ name. name.now) result ≡ name_at (request_of self.now) JobField.Trace }
     {
-        self.draft.name(JobField::Trace)
+        self.name(JobField::Trace)
     }
 
     /// The file of turns to take.
     pub fn turns(&self) -> Option<&str>
         ensures { option_map (λ name. name.now) result ≡ name_at (request_of self.now) JobField.Turns }
     {
-        self.draft.name(JobField::Turns)
+        self.name(JobField::Turns)
     }
 
     /// The file to write the turns to that were taken.
     pub fn turns_out(&self) -> Option<&str>
         ensures { option_map (λ name. name.now) result ≡ name_at (request_of self.now) JobField.TurnsOut }
     {
-        self.draft.name(JobField::TurnsOut)
+        self.name(JobField::TurnsOut)
     }
 
     /// The file of drops.
     pub fn drops(&self) -> Option<&str>
         ensures { option_map (λ name. name.now) result ≡ name_at (request_of self.now) JobField.Drops }
     {
-        self.draft.name(JobField::Drops)
+        self.name(JobField::Drops)
     }
 
     /// The file of coins.
     pub fn coins(&self) -> Option<&str>
         ensures { option_map (λ name. name.now) result ≡ name_at (request_of self.now) JobField.Coins }
     {
-        self.draft.name(JobField::Coins)
+        self.name(JobField::Coins)
     }
 
     // ---- coins
@@ -154,14 +186,20 @@ impl Job {
     pub fn seed(&self) -> Option<[u8; 32]>
         ensures { result ≡ seed_at (request_of self.now) }
     {
-        self.draft.seed()
+        match self.decoded(JobField::Seed) {
+            Some(Decoded::Seed(seed)) => Some(*seed),
+            _ => None,
+        }
     }
 
     /// How the targets are drawn from the seed: each by itself where the job doesn't say.
     pub fn draw(&self) -> Option<Draw>
         ensures { result ≡ draw_at (request_of self.now) }
     {
-        self.draft.draw()
+        match self.decoded(JobField::Draw) {
+            Some(Decoded::Draw(draw)) => Some(*draw),
+            _ => None,
+        }
     }
 
     // ---- records
@@ -235,7 +273,7 @@ impl Job {
         requires { Needs self.now JobField.B }
         ensures { result ≡ numbers_of (params_of (request_of self.now)) }
     {
-        match check(&self.draft.params()) {
+        match check(&self.params) {
             Ok(settings) => settings,
             Err(_) => unreachable!(),
         }
@@ -264,7 +302,61 @@ impl Job {
         requires { Needs self.now JobField.Mode }
         ensures { mode_at (request_of self.now) ≡ Some result }
     {
-        self.draft.mode().unwrap()
+        self.stated_mode().unwrap()
+    }
+
+    // ---- what was decoded
+
+    /// What the value of the field stands for.
+    fn decoded(&self, field: JobField) -> Option<&Decoded>
+        ensures { option_map (λ decoded. seen decoded.now) result ≡ meaning_at (request_of self.now) field }
+    {
+        match self.decoded.get(field.place()) {
+            Some(decoded) => decoded.as_ref(),
+            None => None,
+        }
+    }
+
+    /// The name that the field states.
+    fn name(&self, field: JobField) -> Option<&str>
+        requires { kind_of field ≡ Kind.Name }
+        ensures { option_map (λ name. name.now) result ≡ name_at (request_of self.now) field }
+    {
+        match self.decoded(field) {
+            Some(Decoded::Name(name)) => Some(name.as_str()),
+            _ => None,
+        }
+    }
+
+    /// The number that the field states.
+    fn number_at(&self, field: JobField) -> Option<u64>
+        requires { kind_of field ≡ Kind.Number }
+        ensures { result ≡ number_at (request_of self.now) field }
+    {
+        match self.decoded(field) {
+            Some(Decoded::Number(number)) => Some(*number),
+            _ => None,
+        }
+    }
+
+    /// Who takes the turns, if the job says so.
+    fn stated_mode(&self) -> Option<Mode>
+        ensures { result ≡ mode_at (request_of self.now) }
+    {
+        match self.decoded(JobField::Mode) {
+            Some(Decoded::Mode(mode)) => Some(*mode),
+            _ => None,
+        }
+    }
+
+    /// The names of the inputs.
+    fn input_names(&self) -> &[String]
+        ensures { map string_bytes result.now ≡ inputs_at (request_of self.now) }
+    {
+        match self.decoded(JobField::Inputs) {
+            Some(Decoded::Names(names)) => names.as_slice(),
+            _ => &[],
+        }
     }
 
     // ---- values that the command needs
@@ -274,7 +366,7 @@ impl Job {
         requires needed { Needs self.now field }
         ensures { name_at (request_of self.now) field ≡ Some result.now }
     {
-        self.draft.name(field).unwrap()
+        self.name(field).unwrap()
     }
 
     fn needed_number(&self, field: JobField) -> u64
@@ -282,10 +374,10 @@ impl Job {
         requires needed { Needs self.now field }
         ensures { number_at (request_of self.now) field ≡ Some result }
     {
-        self.draft.number_of(field).unwrap()
+        self.number_at(field).unwrap()
     }
 
-    // A number within the limits of its row.
+    /// A number within the limits of its row.
     fn limited_number(&self, field: JobField) -> u32
         requires kind { kind_of field ≡ Kind.Number }
         requires needed { Needs self.now field }
@@ -296,13 +388,13 @@ impl Job {
         self.needed_number(field) as u32
     }
 
-    // A number within the limits of its row, if it is there.
+    /// A number within the limits of its row, if it is there.
     fn optional_number(&self, field: JobField) -> Option<u32>
         requires limited { IsSome (limits_of field) }
         ensures value { result ≡ number_at (request_of self.now) field }
         ensures limits { IfSome result (λ number. IfSome (limits_of field) (λ limits. (limits.least ≤ number) × (number ≤ limits.greatest))) }
     {
-        match self.draft.number_of(field) {
+        match self.number_at(field) {
             Some(number) => Some(number as u32),
             None => None,
         }

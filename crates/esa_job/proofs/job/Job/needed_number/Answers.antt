@@ -4,4 +4,4 @@ use Rattle.esa_job.proofs.job.Job.needed_number.Goals as goal
 
 pub unwrap-requires : goal.unwrap-requires
 unwrap-requires c =
-    ap is_some c.number_of.ensures ∙ number_at-needed _ c.args.self.now.acceptable _ c.requires.kind c.requires.needed
+    ap is_some c.number_at.ensures ∙ number_at-needed _ c.args.self.now.acceptable _ c.requires.kind c.requires.needed
