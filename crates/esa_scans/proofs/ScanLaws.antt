@@ -1,8 +1,10 @@
 -- What a scan has read once it has read one block more.
-use Rattle.std.proofs.Common.{◌≡◌, ℕ, suc, ◌+◌, ◌*◌, ◌<◌, ◌≤◌, Bool, true, false, List, [], ◌∷◌, ◌++◌, length, Option, Some, None, Ok, Err, refl, sym, ap, ◌∙◌, subst, arith, append_assoc, length-append}
-use Rattle.std.specs.List.{concat, cons_option}
+use Rattle.std.proofs.Common.{◌≡◌, ℕ, suc, ◌+◌, ◌*◌, ◌<◌, ◌≤◌, Bool, true, false, List, [], ◌∷◌, ◌++◌, length, map, Option, Some, None, Ok, Err, refl, sym, ap, ◌∙◌, subst, arith, append_assoc, length-append, add-one}
+use Rattle.std.specs.List.{concat, cons_option, range_with_len}
 use Rattle.std.specs.Option.{option_map_or}
-use Rattle.std.specs.Prelude.{if◌then◌else◌, unwrap_or}
+use Rattle.std.specs.Prelude.{All, if◌then◌else◌, unwrap_or}
+use Rattle.std.proofs.lemmas.List.{map-append}
+use Rattle.std.proofs.lemmas.List.Elements.{All-append, All-cons, All-nil}
 use Rattle.std.proofs.lemmas.List.FromFn.{map-range_with_len_more}
 use Rattle.esa_crowds.specs.Entries.{Entry, entries, entries_from, if_real, inner_in}
 use Rattle.esa_crowds.specs.Kept.{drops_in, sent_from}
@@ -21,10 +23,11 @@ use Rattle.esa_params.specs.declared.slot.Region.TheVariants.{Output}
 use Rattle.esa_report.specs.declared.item.Item.{Item}
 use Rattle.esa_spec.specs.Traces.{read_output, scan}
 use Rattle.esa_vault.specs.Seals.{opens}
-use Rattle.esa_vault.specs.Traffic.{IsRead, ReadAnswer}
+use Rattle.esa_vault.specs.Traffic.{IsRead, OnGiven, ReadAnswer, given_by}
 use Rattle.esa_vault.specs.declared.fault.VaultFault.{VaultFault}
+use Rattle.esa_vault.specs.declared.fault.VaultFault.TheVariants.{Device, Tampered}
 use Rattle.esa_scans.specs.Held.{is_marked}
-use Rattle.esa_scans.specs.Scans.{AreOpen, FailsAt, HasRead, carried_from, is_open, items_from, items_of, reads, text_given}
+use Rattle.esa_scans.specs.Scans.{AreOpen, FailsAt, GaveOpen, HasRead, carried_from, is_open, items_from, items_of, reads, text_given}
 use Rattle.esa_scans.proofs.HeldLaws.{entries-append, length-items, sent-joined, sent_few}
 
 -- what opens is the same text, whatever stood in its place before
@@ -61,6 +64,20 @@ module _ (p : Sizes) (keys : Keys) (attempt : ℕ) where
   open-push j (x ∷ given) bytes all one =
       let same : j + suc (length given) ≡ suc j + length given = omega arith in
       (all.0, open-push (suc j) given bytes all.1 (subst (λ k. is_open p keys attempt k bytes) same one))
+
+  -- the log of a scan has its reads
+  pub accesses-carried : (j : ℕ) (given : List (List ℕ)) → map (λ (entry : Carried). entry.access) (carried_from p attempt j given) ≡ map (read_output p attempt) (range_with_len j (length given))
+  accesses-carried j [] = refl
+  accesses-carried j (x ∷ given) =
+      ap (λ (rest : List Access). read_output p attempt j ∷ rest)
+      (accesses-carried (suc j) given ∙ ap (λ k. map (read_output p attempt) (range_with_len k (length given))) (sym (add-one j)))
+
+  -- and all that they gave opens
+  pub opened-carried : (j : ℕ) (given : List (List ℕ)) → AreOpen p keys attempt j given → All (GaveOpen p keys attempt) (carried_from p attempt j given)
+  opened-carried j [] all = All-nil (GaveOpen p keys attempt)
+  opened-carried j (x ∷ given) all =
+      All-cons (GaveOpen p keys attempt) (record { access = read_output p attempt j; bytes = Some x }) (carried_from p attempt (suc j) given) (x, refl, all.0)
+      (opened-carried (suc j) given all.1)
 
   first-le : (j : ℕ) → first p j ≤ first p (j + 1)
   first-le j = omega arith
@@ -120,12 +137,26 @@ module _ (p : Sizes) (keys : Keys) (attempt : ℕ) where
             opened = open-push 0 given bytes before.opened (subst (λ k. is_open p keys attempt k bytes) (sym zero_on) (ap (opens p keys (at Output j) attempt (size p j)) (sym read.given) ∙ read.answer.0));
           }
 
+      -- the entry of a read that failed
+      same-given : (fault : VaultFault) (last : List ℕ) → OnGiven {T = Unit {0}} (Err fault) (last ≡ bytes) → given_by {T = Unit {0}} (Err fault) bytes ≡ given_by {T = Unit {0}} (Err fault) last
+      same-given (Device slot) last is = refl
+      same-given (Tampered slot) last is = ap (λ xs. Some xs) (sym is)
+
       -- the read failed
       pub read-failed : (fault : VaultFault) → j < p.b → IsRead {V = V} {T = Unit {0}} told faults last_call p (at Output j) attempt (opens p keys (at Output j) attempt (size p j)) bytes mid new (Err fault)
           → FailsAt {V = V} {T = Unit {0}} told faults p keys attempt [] j old new (Err fault)
       read-failed fault inside read = record {
         inside = inside;
         trace = trace-more read.recorded.trace;
+        log = record {
+          passed = carried_from p attempt 0 given;
+          accesses = accesses-carried 0 given ∙ ap (reads p attempt) here;
+          opened = opened-carried 0 given before.opened;
+          log = read.recorded.log
+              ∙ ap (λ (gave : Option (List ℕ)). mid.log ++ record { access = read_output p attempt j; bytes = gave } ∷ []) (same-given fault new.last read.given)
+              ∙ ap (λ (log : List Carried). log ++ record { access = read_output p attempt j; bytes = given_by {T = Unit {0}} (Err fault) new.last } ∷ []) before.log
+              ∙ append_assoc old.log (carried_from p attempt 0 given) (record { access = read_output p attempt j; bytes = given_by {T = Unit {0}} (Err fault) new.last } ∷ []);
+        };
         plan = read.recorded.plan ∙ before.plan;
         stays = read.stays ∙ before.stays;
         answer = subst (λ n. ReadAnswer {T = Unit {0}} (number_of p (at Output j)) n (faults new.device) (opens p keys (at Output j) attempt (size p j) new.last) (Err fault)) before.calm read.answer;
@@ -183,6 +214,19 @@ module _ {V : Type 0} (told : V → Option (List (List ℕ))) (faults : V → �
       trace = failed.trace
           ∙ ap (λ (accesses : List Access). accesses ++ reads p attempt (j + 1)) (before.trace ∙ ap (λ n. old.trace ++ reads p attempt n) all)
           ∙ append_assoc old.trace (scan p attempt) (reads p attempt (j + 1));
+      log =
+          let last : List Carried = record { access = read_output p attempt j; bytes = given_by {T = Unit {0}} (Err fault) new.last } ∷ [] in
+          let first : map (λ (entry : Carried). entry.access) (carried_from p attempt 0 one) ≡ scan p attempt = accesses-carried p keys attempt 0 one ∙ ap (reads p attempt) all in
+          record {
+            passed = carried_from p attempt 0 one ++ failed.log.passed;
+            accesses = map-append (λ (entry : Carried). entry.access) (carried_from p attempt 0 one) failed.log.passed
+                ∙ (λ i. first i ++ failed.log.accesses i);
+            opened = All-append (GaveOpen p keys attempt) (carried_from p attempt 0 one) failed.log.passed (opened-carried p keys attempt 0 one before.opened) failed.log.opened;
+            log = failed.log.log
+                ∙ ap (λ (log : List Carried). log ++ (failed.log.passed ++ last)) before.log
+                ∙ append_assoc old.log (carried_from p attempt 0 one) (failed.log.passed ++ last)
+                ∙ ap (λ (log : List Carried). old.log ++ log) (sym (append_assoc (carried_from p attempt 0 one) failed.log.passed last));
+          };
       plan = failed.plan ∙ before.plan;
       stays = failed.stays ∙ before.stays;
       answer = subst (λ n. ReadAnswer {T = Unit {0}} (number_of p (at Output j)) n (faults new.device) (opens p keys (at Output j) attempt (size p j) new.last) (Err fault)) before.calm failed.answer;

@@ -1,5 +1,5 @@
 -- The scans of a shuffler's output: what they read, what the blocks hold, and how they end.
-use Rattle.std.specs.Prelude.{◌≡◌, ℕ, suc, ◌+◌, ◌<◌, true, List, [], ◌∷◌, ◌++◌, length, map, Option, Some, Result, unwrap_or}
+use Rattle.std.specs.Prelude.{◌≡◌, ℕ, suc, ◌+◌, ◌<◌, true, All, List, [], ◌∷◌, ◌++◌, length, map, Option, Some, Result, unwrap_or}
 use Rattle.esa_device.specs.Logs.{Carried}
 use Rattle.esa_device.specs.Recording.{Recorded}
 use Rattle.esa_envelope.specs.declared.keys.Keys.{Keys}
@@ -10,7 +10,7 @@ use Rattle.esa_params.specs.declared.slot.Region.TheVariants.{Output}
 use Rattle.esa_report.specs.declared.item.Item.{Item}
 use Rattle.esa_spec.specs.Traces.{read_output}
 use Rattle.esa_vault.specs.Seals.{opens, text_in}
-use Rattle.esa_vault.specs.Traffic.{ReadAnswer}
+use Rattle.esa_vault.specs.Traffic.{ReadAnswer, given_by}
 use Rattle.esa_vault.specs.declared.fault.VaultFault.{VaultFault}
 use Rattle.esa_scans.specs.Held.{items_in}
 
@@ -55,10 +55,23 @@ pub record HasRead {V : Type 0} (told : V → Option (List (List ℕ))) (faults 
   pub calm : faults new.device ≡ faults old.device
   pub opened : AreOpen p keys attempt 0 given
 
+-- an access gave bytes that open for its block
+abbrev pub GaveOpen : Sizes → Keys → ℕ → Carried → Type 0
+GaveOpen p keys attempt entry = (bytes : List ℕ) × (entry.bytes ≡ Some bytes) × is_open p keys attempt entry.access.index bytes
+
+-- what the log has of a scan that ended with the read of block j: all that these accesses and the reads before it gave
+-- opens, and the last entry is that read
+pub record EndsLog {T : Type 0} (p : Sizes) (keys : Keys) (attempt : ℕ) (before : List Access) (j : ℕ) (old new : List Carried) (last : List ℕ) (result : Result T VaultFault) : Type 0 where
+  pub passed : List Carried
+  pub accesses : map (λ (entry : Carried). entry.access) passed ≡ before ++ reads p attempt j
+  pub opened : All (GaveOpen p keys attempt) passed
+  pub log : new ≡ old ++ (passed ++ record { access = read_output p attempt j; bytes = given_by result last } ∷ [])
+
 -- after these accesses a scan ended with the read of block j: the device failed, or what it gave doesn't open
 pub record FailsAt {V T : Type 0} (told : V → Option (List (List ℕ))) (faults : V → ℕ) (p : Sizes) (keys : Keys) (attempt : ℕ) (before : List Access) (j : ℕ) (old new : Recorded V) (result : Result T VaultFault) : Type 0 where
   pub inside : j < p.b
   pub trace : new.trace ≡ old.trace ++ (before ++ reads p attempt (j + 1))
+  pub log : EndsLog p keys attempt before j old.log new.log new.last result
   pub plan : new.plan ≡ old.plan
   pub stays : told new.device ≡ told old.device
   pub answer : ReadAnswer (number_of p (at Output j)) (faults old.device) (faults new.device) (opens p keys (at Output j) attempt (size p j) new.last) result

@@ -7,7 +7,7 @@ use Rattle.esa_params.specs.Slots.{at, item_length, number_of}
 use Rattle.esa_params.specs.declared.slot.Region.TheVariants.{Output}
 use Rattle.esa_report.specs.declared.item.Item.{Item}
 use Rattle.esa_vault.specs.Filled.{text_of}
-use Rattle.esa_vault.specs.Placed.{IsSpelled}
+use Rattle.esa_vault.specs.Placed.{IsHeld, IsSpelled}
 use Rattle.esa_vault.specs.Seals.{sealed_block}
 
 -- the latest write of a block of the output took the seal of these items, as many as it has places
@@ -19,3 +19,7 @@ pub record IsSealed (p : Sizes) (keys : Keys) (attempt j : ℕ) (items : List It
 -- so it is with each block
 abbrev pub AreSealed : Sizes → Keys → ℕ → (ℕ → List Item) → List Carried → Type 0
 AreSealed p keys attempt records log = (j : ℕ) → j < p.b → IsSealed p keys attempt j (records j) log
+
+-- no block has a dummy among them
+abbrev pub AreHeld : Sizes → (ℕ → List Item) → Type 0
+AreHeld p records = (j : ℕ) → j < p.b → All IsHeld (records j)

@@ -13,3 +13,6 @@ mod tables;
 mod text;
 
 pub use tables::{Tables, threshold};
+
+#[cfg(test)]
+mod tests;

@@ -1,6 +1,6 @@
 //! The tables of a threshold, and its two scans.
 
-ghost use Rattle.std.specs.Prelude.{◌≡◌, ◌+◌, ◌*◌, ◌≤◌, ◌⊎◌, ℕ, List, [], Some, IfOk, OnOk, OnErr};
+ghost use Rattle.std.specs.Prelude.{◌≡◌, ◌+◌, ◌*◌, ◌≤◌, ◌⊎◌, ◌≢◌, ℕ, List, [], Some, Err, IfOk, OnOk, OnErr};
 ghost use Rattle.std.specs.List.{concat, flat_map};
 ghost use Rattle.esa_crowds.specs.Kept.{forward as forwards};
 ghost use Rattle.esa_device.specs.Logs.{IsFaithful};
@@ -8,9 +8,10 @@ ghost use Rattle.esa_hmac.specs.Mac.{StandsFor};
 ghost use Rattle.esa_params.specs.Sizes.{ArePlanned, below};
 ghost use Rattle.esa_report.specs.declared.item.Item.{Item};
 ghost use Rattle.esa_spec.specs.Traces.{scan};
+ghost use Rattle.esa_vault.specs.declared.fault.VaultFault.TheVariants.{Tampered};
 ghost use Rattle.esa_scans.specs.Forwarded.{HasForwarded};
 ghost use Rattle.esa_scans.specs.Scans.{FailsAt};
-ghost use Rattle.esa_scans.specs.Sealed.{AreSealed};
+ghost use Rattle.esa_scans.specs.Sealed.{AreHeld, AreSealed};
 
 use crate::scan::both;
 use crate::sent::Sent;
@@ -137,6 +138,10 @@ pub fn threshold<V: Device>(
     // It ends with a read of the first scan, or with one of the second.
     ensures fault { OnErr result ((j : ℕ) × (FailsAt V.told V.faults plan.now run.now attempt [] j recorder.old recorder.new result
         ⊎ FailsAt V.told V.faults plan.now run.now attempt (scan plan.now attempt) j recorder.old recorder.new result)) }
+
+    // Where the log is faithful and they were sealed with records last, none of them a dummy, each block opens.
+    ensures opens { (records : ℕ → List Item) (slot : ℕ) → IsFaithful plan.now recorder.new.log → AreSealed plan.now run.now attempt records recorder.old.log
+        → AreHeld plan.now records → result ≢ Err (Tampered slot) }
     ensures nothing { OnErr result (tables.new.forward ≡ []) }
     ensures plan { tables.new.plan ≡ tables.old.plan }
 {
