@@ -13,7 +13,7 @@ use esa_bytes::u64_at;
 /// How many places a hint can name.
 pub(crate) const SLOTS: usize = 4096;
 
-/// An odd number that spreads the bits of what it multiplies.
+/// An odd number that spreads bits upwards in what it multiplies.
 const SPREAD: u64 = 0x9e37_79b9_7f4a_7c15;
 
 /// A sort key, and how many reports of it are counted here. Several can have one key.
@@ -29,9 +29,10 @@ fn slot_of(key: &[u8]) -> usize
 {
     let mut mixed = 0u64;
     for word in 0..key.len() / 8 {
-        mixed = (mixed ^ u64_at(key, 8 * word)).wrapping_mul(SPREAD);
+        let spread = (mixed ^ u64_at(key, 8 * word)).wrapping_mul(SPREAD);
+        mixed = spread ^ (spread >> 32);
     }
-    (mixed >> 32) as usize % SLOTS
+    mixed as usize % SLOTS
 }
 
 /// Counts one more report of a key: where the hint says that the key stands, or else at the end.
