@@ -6,12 +6,11 @@ use Rattle.std.specs.List.Sorted.{IsSorted, IsPermutation}
 use Rattle.std.specs.Option.{is_some, option_map_or}
 use Rattle.std.specs.FinMap as finite
 use Rattle.std.proofs.lemmas.Cmp.{nat_list_cmp_total}
-use Rattle.std.proofs.lemmas.List.Elements.{All-same}
 use Rattle.std.proofs.lemmas.List.Sums.{sum_by-cons}
 use Rattle.std.proofs.lemmas.List.Sorted.{sum_by-IsPermutation, length_permutation}
 use Rattle.esa_params.specs.declared.form.Form.{Form}
 use Rattle.esa_params.specs.declared.form.Form.TheVariants.{One, Two}
-use Rattle.esa_params.specs.Form.{inner_length, report_length}
+use Rattle.esa_params.specs.Form.{inner_length}
 use Rattle.esa_envelope.specs.declared.keys.Keys.{Keys}
 use Rattle.esa_header.specs.Pieces.{pieces, HaveLength}
 use Rattle.esa_header.proofs.PieceLaws.{pieces-concat, length-concat}
@@ -23,8 +22,8 @@ use Rattle.esa_lists.proofs.RunsLaws.{runs-nil}
 use Rattle.esa_analyser.specs.declared.kept.Kept.{Kept}
 use Rattle.esa_analyser.specs.Database.{rows_of}
 use Rattle.esa_analyser.specs.Opened.{reported, gives, database_of, count_in}
-use Rattle.esa_analyser.specs.SortKey.{key_value, IsSortKey, row_of}
-use Rattle.esa_analyser.specs.Kept.{keys_of, form_of, capacity_of, values_of}
+use Rattle.esa_analyser.specs.SortKey.{key_value, row_of}
+use Rattle.esa_analyser.specs.Kept.{keys_of, form_of, capacity_of, values_of, AreRepeated}
 use Rattle.esa_analyser.specs.Counted.{Counted}
 use Rattle.esa_analyser.specs.Inside.{counted_in, IsCounted}
 use Rattle.esa_analyser.proofs.KeyRuns.{by_bytes, rows_of-keys, bytes_tie}
@@ -33,10 +32,10 @@ rows_of-nil : rows_of [] ≡ []
 rows_of-nil = rows_of-keys 64 [] (λ k d below. absurd (omega arith)) (λ k d low below. absurd (omega arith)) ∙ ap (map row_of) (runs-nil by_bytes)
 
 -- where nothing is kept
-pub IsCounted-empty : (kept : Kept) (room : ℕ) → keys_of kept ≡ [] → capacity_of kept ≡ room → IsCounted (record { kept = kept; total = 0; rows = 0; room = room })
-IsCounted-empty kept room none capacity = record {
+pub IsCounted-empty : (kept : Kept) (room : ℕ) → AreRepeated kept → keys_of kept ≡ [] → capacity_of kept ≡ room → IsCounted (record { kept = kept; total = 0; rows = 0; room = room })
+IsCounted-empty kept room each none capacity = record {
   sorted = record {
-    keys = All-same (IsSortKey (report_length (form_of kept))) _ _ none (λ k d below. absurd (omega arith));
+    each = each;
     order = subst (IsSorted by_bytes) (sym none) (λ k d low below. absurd (omega arith));
   };
   rows = sym (ap (λ keys. length (rows_of (map key_value keys))) none ∙ ap length rows_of-nil);

@@ -16,7 +16,16 @@ use Rattle.esa_lists.proofs.RunsLaws.{runs-nil, runs-cons, total-runs}
 use Rattle.esa_analyser.specs.Database.{longest, rows_of}
 use Rattle.esa_analyser.specs.Rows.{AreRising, IsRow, IsDatabase}
 use Rattle.esa_analyser.specs.SortKey.{key_value, IsSortKey, row_of}
+use Rattle.esa_analyser.specs.declared.kept.Kept.{Kept}
+use Rattle.esa_analyser.specs.declared.kept.Kept.TheVariants.{One, Two}
+use Rattle.esa_analyser.specs.Kept.{keys_of, form_of, AreRepeated}
 use Rattle.esa_analyser.proofs.KeyRuns.{by_bytes, rows_of-keys, runs-values}
+use Rattle.esa_analyser.proofs.Repeats.{are_sort_keys}
+
+-- each of the kept keys is a sort key
+pub kept_keys : (kept : Kept) → AreRepeated kept → All (IsSortKey (report_length (form_of kept))) (keys_of kept)
+kept_keys (One keys) each = are_sort_keys keys.items each
+kept_keys (Two keys) each = are_sort_keys keys.items each
 
 -- a run has an element
 abbrev IsSome : List ℕ × ℕ → Type 0

@@ -13,11 +13,12 @@ use Rattle.esa_analyser.specs.RunBytes.{run_bytes}
 use Rattle.esa_analyser.specs.Kept.{keys_of, form_of, values_of, AreSorted}
 use Rattle.esa_analyser.specs.KeptBytes.{kept_bytes}
 use Rattle.esa_analyser.proofs.KeyRuns.{rows_of-keys}
+use Rattle.esa_analyser.proofs.KeptLaws.{kept_keys}
 use Rattle.esa_analyser.proofs.RunWriting.{file_parts}
 
 -- the rows of the runs are the rows of the values
 pub run_bytes-rows : (kept : Kept) → AreSorted kept → run_bytes (keys_of kept) ≡ flat_map row_bytes (rows_of (values_of kept))
-run_bytes-rows kept sorted = sym (ap (flat_map row_bytes) (rows_of-keys (report_length (form_of kept)) (keys_of kept) sorted.keys sorted.order))
+run_bytes-rows kept sorted = sym (ap (flat_map row_bytes) (rows_of-keys (report_length (form_of kept)) (keys_of kept) (kept_keys kept sorted.each) sorted.order))
 
 pub kept_parts : (kept : Kept) (form : Form) (front : List ℕ) (rows unopened : ℕ) → AreSorted kept → form ≡ form_of kept → front ≡ front_bytes form rows unopened → rows ≡ length (rows_of (values_of kept)) → front ++ run_bytes (keys_of kept) ≡ kept_bytes kept unopened
 kept_parts kept form front rows unopened sorted form_is front_is rows_is =

@@ -1,12 +1,13 @@
 pub mod KeyOrder
 pub mod KeyLaws
 pub mod KeyRuns
+pub mod Repeats
 pub mod Filled
 pub mod RowReading
 pub mod RowWriting
 pub mod DbLaws
 pub mod Counting
 pub mod RunWriting
+pub mod KeptLaws
 pub mod KeptWriting
 pub mod Printing
-pub mod KeptLaws

@@ -1,38 +1,36 @@
 -- Rows that are put one after another.
-use Rattle.std.proofs.Common.{ℕ, ◌+◌, ◌<◌, List, [], ◌∷◌, ◌++◌, length, drop, map as map_list, get_or, Option, Some, None, Result, Ok, Err, sym, ap, subst, ◌∙◌, arith, append_assoc, append-nil}
-use Rattle.std.specs.Prelude.{◌≡◌, ◌⊎◌, flat_map, All, OnOk, OnErr}
-use Rattle.std.specs.FinMap as map
-use Rattle.std.proofs.lemmas.Result.{on_ok_weaker, on_err_weaker}
-use Rattle.esa_outside.specs.Told.{HoldsFront}
+use Rattle.std.proofs.Common.{ℕ, ◌+◌, ◌<◌, List, [], ◌∷◌, ◌++◌, length, drop, map as map_list, get_or, refl, sym, ap, subst, ◌∙◌, arith, append_assoc}
+use Rattle.std.specs.Prelude.{◌≡◌, flat_map, All}
 use Rattle.esa_params.specs.declared.form.Form.{Form}
 use Rattle.esa_analyser.specs.Database.{Database}
 use Rattle.std.proofs.lemmas.List.{get_or-drop, length-drop, drop_more}
-use Rattle.esa_lists.specs.Files.{Files}
 use Rattle.esa_lists.specs.Tally.{runs}
 use Rattle.esa_lists.proofs.RunsLaws.{runs-nil}
-use Rattle.esa_page.specs.Underway.{IsUnderway, IsWhole, IsLeft}
-use Rattle.esa_page.proofs.UnderwayLaws.{IsLeft-longer}
 use Rattle.esa_analyser.specs.Rows.{row_bytes, front_bytes, database_bytes}
 use Rattle.esa_analyser.specs.SortKey.{key_value, row_of}
+use Rattle.esa_analyser.specs.declared.repeated.Repeated.{Repeated}
+use Rattle.esa_analyser.specs.Repeated.{all_keys}
 use Rattle.esa_analyser.specs.RunBytes.{run_bytes}
 use Rattle.esa_analyser.proofs.KeyRuns.{by_bytes}
 
 -- one run further
-pub run_step : (whole : List ℕ) (rest others : List (List ℕ)) (value first : List ℕ) (n : ℕ) (done : List ℕ) → whole ≡ done ++ run_bytes rest → runs by_bytes rest ≡ (get_or rest 0 [], n) ∷ runs by_bytes (drop n rest) → others ≡ drop n rest → value ≡ key_value first → first ≡ get_or rest 0 []
+pub run_step : (whole : List ℕ) (rest others : List (List ℕ)) (value first : List ℕ) (n : ℕ) (done : List ℕ) → whole ≡ done ++ run_bytes rest → runs by_bytes rest ≡ (first, n) ∷ runs by_bytes others → value ≡ key_value first
     → whole ≡ (done ++ row_bytes (value, n)) ++ run_bytes others
-run_step whole rest others value first n done so_far run behind value_is first_is =
-    let spelled : value ≡ key_value (get_or rest 0 []) = value_is ∙ ap key_value first_is in
+run_step whole rest others value first n done so_far run spelled =
     so_far
     ∙ ap (λ rows. done ++ flat_map row_bytes (map_list row_of rows)) run
-    ∙ ap (λ v. done ++ (row_bytes (v, n) ++ run_bytes (drop n rest))) (sym spelled)
-    ∙ ap (λ keys. done ++ (row_bytes (value, n) ++ run_bytes keys)) (sym behind)
+    ∙ ap (λ v. done ++ (row_bytes (v, n) ++ run_bytes others)) (sym spelled)
     ∙ sym (append_assoc done (row_bytes (value, n)) (run_bytes others))
 
-pub no_run_bytes : (rest : List (List ℕ)) → length rest ≡ 0 → run_bytes rest ≡ []
+no_run_bytes : (rest : List (List ℕ)) → length rest ≡ 0 → run_bytes rest ≡ []
 no_run_bytes [] none = ap (λ rows. flat_map row_bytes (map_list row_of rows)) (runs-nil by_bytes)
 no_run_bytes (x ∷ xs) none = absurd (omega arith)
 
-pub all_behind : (P : List ℕ → Type 0) (n : ℕ) (xs ys : List (List ℕ)) → ys ≡ drop n xs → All P xs → All P ys
+pub no_rows : {P : ℕ} (rest : List (Repeated P)) → length rest ≡ 0 → run_bytes (all_keys rest) ≡ []
+no_rows [] none = no_run_bytes [] refl
+no_rows (one ∷ rest) none = absurd (omega arith)
+
+pub all_behind : {X : Type 0} (P : X → Type 0) (n : ℕ) (xs ys : List X) → ys ≡ drop n xs → All P xs → All P ys
 all_behind P n xs ys behind each = subst (All P) (sym behind) (λ k d below. subst P (sym (get_or-drop n xs k d)) (each (n + k) d (omega (arith, length-drop n xs))))
 
 -- one row further

@@ -4,6 +4,7 @@ pub mod Rows
 pub mod Reading
 pub mod Opened
 pub mod SortKey
+pub mod Repeated
 pub mod RunBytes
 pub mod Kept
 pub mod KeptBytes

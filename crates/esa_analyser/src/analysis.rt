@@ -95,7 +95,7 @@ impl Analysis {
     pub fn unopened(&self) -> u32
         ensures { result ≡ self.now.database.unopened }
     {
-        self.total - self.kept.len() as u32
+        self.total - self.kept.reports()
     }
 
     /// Writes the database as a file of the form's version. The file starts anew. It takes no memory.

@@ -1,4 +1,4 @@
-//! The sort keys of opened reports, of either form.
+//! The sort keys of opened reports with their counts, of either form.
 
 ghost use Rattle.std.specs.Prelude.{◌≡◌, ◌+◌, ◌*◌, ◌<◌, ◌≤◌, ◌^◌, ◌++◌, [], List, ℕ, Option, length, filter_map, IfOk, OnOk, OnErr};
 ghost use Rattle.esa_header.specs.Pieces.{pieces};
@@ -12,21 +12,22 @@ ghost use Rattle.esa_page.specs.Underway.{IsUnderway, IsWhole, IsLeft};
 ghost use Rattle.esa_page.specs.Writing.{IsWriting, HasWritten, HasBroken};
 ghost use Rattle.esa_analyser.specs.RunBytes.{run_bytes};
 ghost use Rattle.esa_analyser.specs.KeptBytes.{kept_bytes};
-ghost use Rattle.esa_analyser.specs.Kept.{keys_of, form_of, capacity_of, values_of, AreSorted};
+ghost use Rattle.esa_analyser.specs.Kept.{keys_of, form_of, capacity_of, values_of, AreRepeated, AreSorted};
 
 use crate::keys::{count, put_runs};
 use crate::put::front;
+use crate::repeated::{Repeated, reports};
 use esa_envelope::Prepared;
 use esa_outside::{Cabinet, Failed};
 use esa_page::Page;
 use esa_params::Form;
 use std::alloc::{AllocError, Global};
 
-/// The sort keys, in rising order, in room that was reserved.
+/// The sort keys with their counts, in rising order, in room that was reserved.
 #[derive(Drop)]
 pub(crate) enum Kept {
-    One(Vec<[u8; 64]>),
-    Two(Vec<[u8; 192]>),
+    One(Vec<Repeated<64>>),
+    Two(Vec<Repeated<192>>),
 }
 
 impl Kept {
@@ -34,6 +35,7 @@ impl Kept {
     pub(crate) fn reserved(alloc: Global, form: Form, n: usize) -> Result<Kept, AllocError>
         ensures form { IfOk result (λ kept. form_of kept ≡ form) }
         ensures empty { IfOk result (λ kept. keys_of kept ≡ []) }
+        ensures each { IfOk result AreRepeated }
         ensures room { IfOk result (λ kept. capacity_of kept ≡ n) }
     {
         match form {
@@ -58,13 +60,14 @@ impl Kept {
         }
     }
 
-    /// The number of keys.
-    pub(crate) fn len(&self) -> usize
+    /// The number of reports.
+    pub(crate) fn reports(&self) -> u32
+        requires { length (keys_of self.now) < 2 ^ 32 }
         ensures { result ≡ length (keys_of self.now) }
     {
         match self {
-            Kept::One(keys) => keys.len(),
-            Kept::Two(keys) => keys.len(),
+            Kept::One(keys) => reports(keys),
+            Kept::Two(keys) => reports(keys),
         }
     }
 

@@ -18,6 +18,7 @@ mod line;
 mod print;
 mod put;
 mod refused;
+mod repeated;
 mod row;
 mod write;
 

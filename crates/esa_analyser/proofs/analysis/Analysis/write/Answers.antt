@@ -5,7 +5,7 @@ use Rattle.esa_page.specs.Writing.{HasWritten, HasBroken}
 use Rattle.esa_analyser.specs.Counted.{Counted}
 use Rattle.esa_analyser.specs.Kept.{keys_of, form_of}
 use Rattle.esa_analyser.specs.Rows.{IsDatabase}
-use Rattle.esa_analyser.proofs.KeptLaws.{IsDatabase-keys}
+use Rattle.esa_analyser.proofs.KeptLaws.{kept_keys, IsDatabase-keys}
 use Rattle.esa_page.proofs.WritingLaws.{OnOk-whole, OnErr-left, silent-still}
 use Rattle.esa_analyser.proofs.KeptWriting.{kept_file}
 use Rattle.esa_analyser.proofs.analysis.Analysis.write.Goals as goal
@@ -45,4 +45,4 @@ returns-clause-readable g c =
     let is = c.self.invariant in
     let kept = c.self.inside.kept in
     subst (λ (v : Counted). IsDatabase v.form v.database) c.self.view_is
-    (IsDatabase-keys (form_of kept) (keys_of kept) c.self.inside.total is.sorted.keys is.sorted.order is.few is.small)
+    (IsDatabase-keys (form_of kept) (keys_of kept) c.self.inside.total (kept_keys kept is.sorted.each) is.sorted.order is.few is.small)

@@ -1,0 +1,8 @@
+use Rattle.std.proofs.Common.{◌≡◌, length, take}
+use Rattle.esa_analyser.specs.Repeated.{all_keys}
+use Rattle.esa_analyser.proofs.repeated.reports.Given as goal
+
+abbrev pub invariant-loop-place : goal.invariant-loop-place
+invariant-loop-place g l = record {
+  counted : l.reports ≡ length (all_keys (take l.place l.list));
+}
