@@ -2,5 +2,6 @@ pub mod Composition
 pub mod WholeFiles
 pub mod Readers
 pub mod Settling
+pub mod Printing
 pub mod Agreeing
 pub mod Lines
