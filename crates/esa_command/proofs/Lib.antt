@@ -5,3 +5,4 @@ pub mod Settling
 pub mod Printing
 pub mod Agreeing
 pub mod Lines
+pub mod Ending

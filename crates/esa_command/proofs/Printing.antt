@@ -1,12 +1,12 @@
 -- Lines that are printed one after another.
-use Rattle.std.proofs.Common.{◌≡◌, ℕ, ◌+◌, ◌<◌, ◌≤◌, List, [], ◌∷◌, ◌++◌, length, take, map, flat_map, Option, Some, None, refl, sym, ap, subst, ◌∙◌, append-nil, append_assoc, arith}
+use Rattle.std.proofs.Common.{◌≡◌, ℕ, ◌+◌, ◌<◌, ◌≤◌, List, [], ◌∷◌, ◌++◌, length, take, drop, get_or, map, flat_map, Option, Some, None, Result, Ok, Err, refl, sym, ap, subst, ◌∙◌, append-nil, append_assoc, arith}
 use Rattle.std.proofs.Math.Seq.{take-append-add}
 use Rattle.std.proofs.lemmas.Grind.{flat_map-append}
-use Rattle.std.proofs.lemmas.List.{map-append, take-append-le, length-append}
+use Rattle.std.proofs.lemmas.List.{map-append, take-append-le, take_more, take_all, take-append-drop, length-append}
 use Rattle.esa_outside.specs.Cause.{Rose}
 use Rattle.esa_outside.specs.Heard.{printed}
 use Rattle.esa_outside.specs.Told.{AddsFront, line_of}
-use Rattle.esa_command.specs.Doing.{ArePrinted, AreCut}
+use Rattle.esa_command.specs.Doing.{ArePrinted, AreCut, PrintsAll}
 use Rattle.esa_command.specs.Stand.{Stand}
 
 -- a front of a part that stands between others
@@ -60,3 +60,34 @@ module _ (before middle now : Stand (List ℕ)) (done part : List (List ℕ)) (f
         );
     silent = λ none. then.silent (first.silent none);
   }
+
+-- ---- the lines of a list, one by one
+
+module _ (lines : List (List ℕ)) (i : ℕ) (line : List ℕ) (below : i < length lines) (is : line ≡ get_or lines i []) (before middle now : Stand (List ℕ)) (so_far : ArePrinted (take i lines) before middle) where
+  further : take (i + 1) lines ≡ take i lines ++ line ∷ []
+  further = take_more lines i [] below ∙ ap (λ l. take i lines ++ l ∷ []) (sym is)
+
+  -- one line further
+  pub printed_next : ArePrinted (line ∷ []) middle now → ArePrinted (take (i + 1) lines) before now
+  printed_next next = subst (λ ls. ArePrinted ls before now) (sym further) (printed_then before middle now (take i lines) (line ∷ []) so_far next)
+
+  -- a line that isn't printed is the end
+  pub cut_next : AreCut (line ∷ []) middle now → AreCut lines before now
+  cut_next next =
+      subst (λ ls. AreCut ls before now) (ap (λ ls. ls ++ drop (i + 1) lines) (sym further) ∙ take-append-drop (i + 1) lines)
+      (cut_then before middle now (take i lines) (line ∷ []) so_far (drop (i + 1) lines) next)
+
+-- all are printed
+pub printed_end : (lines : List (List ℕ)) (i : ℕ) (before now : Stand (List ℕ)) → length lines ≤ i → ArePrinted (take i lines) before now → ArePrinted lines before now
+printed_end lines i before now past so_far = subst (λ ls. ArePrinted ls before now) (take_all i lines past) so_far
+
+-- ---- lines and one more behind them
+
+module _ {T E : Type 0} (before middle now : Stand (List ℕ)) (lines : List (List ℕ)) (last : List ℕ) where
+  pub prints_last : (result : Result T E) → ArePrinted lines before middle → PrintsAll (last ∷ []) middle now result → PrintsAll (lines ++ last ∷ []) before now result
+  prints_last (Ok done) so_far next = printed_then before middle now lines (last ∷ []) so_far next
+  prints_last (Err why) so_far next = subst (λ ls. AreCut ls before now) (append-nil (lines ++ last ∷ [])) (cut_then before middle now lines (last ∷ []) so_far [] next)
+
+-- lines that aren't all printed, before others
+pub cut_before : (before now : Stand (List ℕ)) (lines more : List (List ℕ)) → AreCut lines before now → AreCut (lines ++ more) before now
+cut_before before now lines more cut = cut_then before before now [] lines (none_printed before) more cut

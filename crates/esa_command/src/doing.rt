@@ -12,10 +12,10 @@ use esa_outside::{Failed, Printer, Role};
 use esa_refusal::{End, Line, Sink, Status};
 
 /// Prints a line.
-pub fn print_line<P: Printer>(printer: &mut P, line: &Line) -> Result<(), Failed>
-    ensures { PrintsAll (line.now ∷ []) (stand P.told P.faults P.heard printer.old) (stand P.told P.faults P.heard printer.new) result }
+pub fn print_line<P: Printer>(printer: &mut P, text: &[u8]) -> Result<(), Failed>
+    ensures { PrintsAll (text.now ∷ []) (stand P.told P.faults P.heard printer.old) (stand P.told P.faults P.heard printer.new) result }
 {
-    printer.line(line.as_bytes())
+    printer.line(text)
 }
 
 /// How work ends that has all its files written, by how its lines were printed.
@@ -42,7 +42,7 @@ pub fn settle_one<P: Printer>(
         (stand P.told P.faults P.heard printer.old) (stand P.told P.faults P.heard printer.new) result }
 {
     match saved {
-        Ok(()) => settle(print_line(printer, line)),
+        Ok(()) => settle(print_line(printer, line.as_bytes())),
         Err(Failed) => End::Stopped(Status::OutsideFault(sink.role())),
     }
 }
