@@ -1,2 +1,2 @@
 mod Counts
-mod Readers
+mod Upgrades

@@ -1,6 +1,6 @@
 //! The command analyse: a forward file becomes a database.
 
-ghost use Rattle.std.specs.Prelude.{◌≡◌, ◌++◌, Some, IfOk, codes, ℕ};
+ghost use Rattle.std.specs.Prelude.{◌≡◌, IfOk};
 ghost use Rattle.esa_envelope.specs.declared.label.Label.TheVariants.{Inner};
 ghost use Rattle.esa_job.specs.Seen.{Needs};
 ghost use Rattle.esa_analysing.specs.Analyse.{analyse_steps, database_work, number_of, counted_by, AreWhole};
@@ -9,16 +9,16 @@ ghost use Rattle.esa_command.specs.Ends.{Ends};
 ghost use Rattle.esa_command.specs.Judged.{Judged};
 ghost use Rattle.esa_command.specs.Settled.{Settles};
 ghost use Rattle.esa_command.specs.Stand.{stand};
-ghost use Rattle.esa_refusal.specs.Refusal.{numbered};
 
 use crate::forwarding::take_forward;
+use crate::lines::counted_line;
 use esa_analyser::Analysis;
-use esa_command::{take_job, take_keys};
+use esa_command::{settle_one, take_job, take_keys};
 use esa_envelope::{Label, record_keys};
 use esa_job::{Command, Job, JobField};
-use esa_outside::{Cabinet, Failed, Printer, Role};
+use esa_outside::{Cabinet, Printer};
 use esa_params::Form;
-use esa_refusal::{End, Line, Status, Stop, add_numbered};
+use esa_refusal::{End, Sink, Status, Stop};
 use esa_threshold::Forwarded;
 use std::alloc::{AllocError, Global};
 
@@ -104,16 +104,6 @@ fn count_analyse<K: Cabinet>(
     Ok(AnalyseCount { job, analysis })
 }
 
-/// The line that tells how many rows a database has, and how many envelopes gave no value.
-fn counted_line(rows: u32, unopened: u32) -> Line
-    ensures { result ≡ numbered (codes "rows ") rows ++ numbered (codes " unopened ") unopened }
-{
-    let mut line = Line::new();
-    add_numbered(&mut line, "rows ", u64::from(rows));
-    add_numbered(&mut line, " unopened ", u64::from(unopened));
-    line
-}
-
 /// Writes the database and prints what it holds.
 fn work_analyse<K: Cabinet, P: Printer>(
     cabinet: &mut K,
@@ -125,16 +115,9 @@ fn work_analyse<K: Cabinet, P: Printer>(
         (stand K.told K.faults K.heard cabinet.old) (stand K.told K.faults K.heard cabinet.new)
         (stand P.told P.faults P.heard printer.old) (stand P.told P.faults P.heard printer.new) result }
 {
-    match analysis.write(cabinet, output) {
-        Ok(()) => {
-            let line = counted_line(analysis.rows(), analysis.unopened());
-            match printer.line(line.as_bytes()) {
-                Ok(()) => End::Settled(Status::Ok),
-                Err(Failed) => End::Settled(Status::OutsideFault(Role::Printer)),
-            }
-        }
-        Err(Failed) => End::Stopped(Status::OutsideFault(Role::Output)),
-    }
+    let saved = analysis.write(cabinet, output);
+    let line = counted_line(analysis.rows(), analysis.unopened());
+    settle_one(saved, Sink::Output, printer, &line)
 }
 
 /// Counts what a shuffler handed on into a database, writes it, and prints what it holds.

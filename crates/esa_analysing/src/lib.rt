@@ -1,8 +1,17 @@
-//! The commands of the role that analyses: so far `analyse`, by which a forward file becomes a database.
+//! The commands of the role that analyses: `analyse`, by which a forward file becomes a database, `histogram`, which prints a
+//! database, and `upgrade`, which writes it in version 2.
 #![tactic(auto)]
 
 mod analyse_command;
 mod forwarding;
+mod histogram_command;
+mod lines;
+mod loading;
+mod row_line;
+mod upgrade_command;
 
 pub use analyse_command::analyse;
 pub use forwarding::take_forward;
+pub use histogram_command::histogram;
+pub use loading::take_database;
+pub use upgrade_command::upgrade;

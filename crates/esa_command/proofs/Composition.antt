@@ -6,11 +6,13 @@ use Rattle.esa_refusal.specs.declared.source.Source.{Source}
 use Rattle.esa_refusal.specs.declared.refusal.Refusal.{Refusal}
 use Rattle.esa_refusal.specs.declared.stop.Stop.{Stop}
 use Rattle.esa_refusal.specs.declared.stop.Stop.TheVariants.{Refused, Unread, OutOfMemory}
+use Rattle.esa_refusal.specs.Refusal.{IsOfInput}
 use Rattle.esa_refusal.specs.Source.{place_of, is_same_source}
 use Rattle.esa_command.specs.Given.{Gave, Given, heard_of, all_heard, Agrees, AllAgree, AreInOrder}
 use Rattle.esa_command.specs.Judged.{IsMissing, StopsBy, AnswersBy, Judged}
 use Rattle.esa_command.specs.Stand.{Stand}
-use Rattle.esa_command.specs.Step.{Step, ◌>>=◌, accepted, refused, missing, Reads, reads_of, without}
+use Rattle.esa_command.specs.Step.{Step, ◌>>=◌, accepted, refused, missing, Reads, reads_of, without, file}
+use Rattle.esa_job.specs.declared.command.Command.{Command}
 
 heard-append : (some more : List Given) → all_heard (some ++ more) ≡ all_heard some ++ all_heard more
 heard-append [] more = refl
@@ -63,7 +65,7 @@ agree-without read gone first last (given ∷ rest) order behind agree = (
 module _ {X Y A B : Type 0} (first middle between last : ℕ) (one : X → A) (two : Y → B) (steps : Reads → Step A) (next : Reads → A → Step B) (before now : Stand Files) where
   -- the first stops
   stops : (stop : Stop) (read : Reads) → between ≤ last → StopsBy before.told steps first between before.faults now.faults stop read → StopsBy before.told (λ r. steps r >>= next r) first last before.faults now.faults stop read
-  stops (Refused refusal) read below answer = (ap (λ step. step >>= next read) answer.0, answer.1)
+  stops (Refused refusal) read below answer = (ap (λ step. step >>= next read) answer.0, answer.1, answer.2)
   stops (Unread source) read below answer = (
     answer.0,
     omega (arith, answer.1),
@@ -97,7 +99,7 @@ module _ {X Y A B : Type 0} (first middle between last : ℕ) (one : X → A) (t
 
   stops_later : (stop : Stop) (read : Reads) → AllAgree read j.given → StopsBy then.told (λ r. next r (one value)) between last then.faults now.faults stop read
       → StopsBy before.told (λ r. steps r >>= next r) first last before.faults now.faults stop read
-  stops_later (Refused refusal) read agree answer = (on read agree ∙ answer.0, answer.1 ∙ (j.answers read agree).1)
+  stops_later (Refused refusal) read agree answer = (on read agree ∙ answer.0, answer.1 ∙ (j.answers read agree).1, answer.2)
   stops_later (Unread source) read agree answer =
       let behind : middle ≤ place_of source = omega (arith, mid, answer.0) in (
         omega (arith, behind, order-first first middle j.given j.once),
@@ -137,13 +139,13 @@ module _ {X Y A B : Type 0} (first last : ℕ) (one : X → A) (two : Y → B) (
     told = j.told;
   }
 
-  pub judged_refused : (refusal : Refusal) → next (one value) ≡ refused refusal → Judged first last two (λ read. steps read >>= next) before now (Err (Refused refusal))
-  judged_refused refusal is = record {
+  pub judged_refused : (refusal : Refusal) → next (one value) ≡ refused refusal → IsOfInput refusal → Judged first last two (λ read. steps read >>= next) before now (Err (Refused refusal))
+  judged_refused refusal is input = record {
     given = j.given;
     heard = j.heard;
     once = j.once;
     tells = j.tells;
-    answers = λ read agree. (ap (λ step. step >>= next) (j.answers read agree).0 ∙ is, (j.answers read agree).1);
+    answers = λ read agree. (ap (λ step. step >>= next) (j.answers read agree).0 ∙ is, (j.answers read agree).1, input);
     told = j.told;
   }
 
@@ -158,11 +160,22 @@ module _ {X Y A B : Type 0} (first last : ℕ) (one : X → A) (two : Y → B) (
   }
 
   -- where it is refused, or memory is wanted
-  pub judged_not_made : (refusal : Refusal) (stop : Stop) → (stop ≡ OutOfMemory) ⊎ ((stop ≡ Refused refusal) × (next (one value) ≡ refused refusal)) → Judged first last two (λ read. steps read >>= next) before now (Err stop)
+  pub judged_not_made : (refusal : Refusal) (stop : Stop) → (stop ≡ OutOfMemory) ⊎ ((stop ≡ Refused refusal) × (next (one value) ≡ refused refusal) × IsOfInput refusal) → Judged first last two (λ read. steps read >>= next) before now (Err stop)
   judged_not_made refusal stop why = elim why [
     | inl starved ↦ subst (λ s. Judged first last two (λ read. steps read >>= next) before now (Err s)) (sym starved) judged_starved
-    | inr told ↦ subst (λ s. Judged first last two (λ read. steps read >>= next) before now (Err s)) (sym told.0) (judged_refused refusal told.1)
+    | inr told ↦ subst (λ s. Judged first last two (λ read. steps read >>= next) before now (Err s)) (sym told.0) (judged_refused refusal told.1 told.2)
   ]
+
+-- what is refused before any file is read
+pub judged_at_once : {X A : Type 0} (first last : ℕ) (view : X → A) (steps : Reads → Step A) (before : Stand Files) (refusal : Refusal) → first ≤ last → ((read : Reads) → steps read ≡ refused refusal) → IsOfInput refusal → Judged first last view steps before before (Err (Refused refusal))
+judged_at_once first last view steps before refusal order is input = record {
+  given = [];
+  heard = sym (append-nil before.heard);
+  once = order;
+  tells = λ files told. tt;
+  answers = λ read agree. (is read, refl, input);
+  told = refl;
+}
 
 -- the bound of the roles may be a later one
 pub judged_wider : {X A : Type 0} (first last end : ℕ) (view : X → A) (steps : Reads → Step A) (before now : Stand Files) (result : Result X Stop) → last ≤ end → Judged first last view steps before now result → Judged first end view steps before now result
@@ -220,3 +233,8 @@ judged_out first last one two steps before now value j = record {
 -- the same steps, said in another way
 pub judged_steps : {X A : Type 0} (first last : ℕ) (view : X → A) (one two : Reads → Step A) (before now : Stand Files) (result : Result X Stop) → one ≡ two → Judged first last view one before now result → Judged first last view two before now result
 judged_steps first last view one two before now result is j = subst (λ steps. Judged first last view steps before now result) is j
+
+-- the same file, by a name that is the same
+pub judged_file : {X : Type 0} (first last : ℕ) (view : X → List ℕ) (command : Command) (source : Source) (one two : List ℕ) (before now : Stand Files) (result : Result X Stop) → one ≡ two
+    → Judged first last view (file command source one) before now result → Judged first last view (file command source two) before now result
+judged_file first last view command source one two before now result is j = subst (λ name. Judged first last view (file command source name) before now result) is j

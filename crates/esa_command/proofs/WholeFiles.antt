@@ -68,7 +68,7 @@ module _ {X : Type 0} (items : X → List ℕ) (command : Command) (s : Source) 
   pub read_long : (n : ℕ) → ((files : Files) → before.told ≡ Some files → option_map length (map.get files name) ≡ Some n) → limit_of command s < n
       → now.heard ≡ before.heard ++ length_of name n ∷ [] → now.faults ≡ before.faults
       → Judged (place_of s) (place_of s + 1) items (file command s name) before now (Err (Refused (Large (role_of s))))
-  read_long n tells past heard kept = made (long n) (Err (Refused (Large (role_of s)))) heard tells (λ read agree. (within-long (limit_of command s) n s (read s name) agree past, kept))
+  read_long n tells past heard kept = made (long n) (Err (Refused (Large (role_of s)))) heard tells (λ read agree. (within-long (limit_of command s) n s (read s name) agree past, kept, tt))
 
   gone : (read : Reads) → file command s name (without s read) ≡ missing s
   gone read = ap (λ same. within (limit_of command s) s (cond same None (read s name))) (is_same s)

@@ -6,6 +6,7 @@ use Rattle.esa_outside.specs.Heard.{Event}
 use Rattle.esa_refusal.specs.declared.source.Source.{Source}
 use Rattle.esa_refusal.specs.declared.stop.Stop.{Stop}
 use Rattle.esa_refusal.specs.declared.stop.Stop.TheVariants.{Refused, Unread, OutOfMemory}
+use Rattle.esa_refusal.specs.Refusal.{IsOfInput}
 use Rattle.esa_refusal.specs.Source.{place_of}
 use Rattle.esa_command.specs.Given.{Given, all_heard, AllAgree, AreInOrder}
 use Rattle.esa_command.specs.Stand.{Stand}
@@ -15,10 +16,10 @@ use Rattle.esa_command.specs.Step.{Step, accepted, refused, missing, Reads, read
 abbrev pub IsMissing : {A : Type 0} → Option Files → (Reads → Step A) → Source → Type 0
 IsMissing told steps source = (files : Files) × (told ≡ Some files) × (steps (reads_of files) ≡ missing source)
 
--- By what was read: it is refused so by the steps; a file isn't read only where the steps before it are accepted, and
+-- By what was read: it is refused so by the steps, and for what is wrong with a file; a file isn't read only where the steps before it are accepted, and
 -- where the count rose or the cabinet tells that it isn't there.
 abbrev pub StopsBy : {A : Type 0} → Option Files → (Reads → Step A) → (first last before now : ℕ) → Stop → Reads → Type 0
-StopsBy told steps first last before now (Refused refusal) read = (steps read ≡ refused refusal) × (now ≡ before)
+StopsBy told steps first last before now (Refused refusal) read = (steps read ≡ refused refusal) × (now ≡ before) × IsOfInput refusal
 StopsBy told steps first last before now (Unread source) read =
     (first ≤ place_of source) × (place_of source < last) × (steps (without source read) ≡ missing source) × (Rose before now ⊎ IsMissing told steps source)
 StopsBy told steps first last before now OutOfMemory read = now ≡ before

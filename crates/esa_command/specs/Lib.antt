@@ -1,3 +1,4 @@
+pub mod Asked
 pub mod Given
 pub mod Judged
 pub mod Stand
@@ -5,5 +6,6 @@ pub mod Step
 pub mod Taking
 pub mod Work
 pub mod Settled
+pub mod Doing
 pub mod Ends
 pub mod Telling

@@ -1,12 +1,18 @@
 //! What every command does: it takes in its input step by step, and then does the work that the input asks for.
 #![tactic(auto)]
 
+mod asked;
+mod doing;
 mod laws;
 mod reading;
 mod taking;
 mod telling;
+mod writing;
 
+pub use asked::form_of;
+pub use doing::{print_line, settle, settle_one};
 pub use laws::some_files_agree;
 pub use reading::read_file;
 pub use taking::{take_job, take_keys};
 pub use telling::tell;
+pub use writing::write_bytes;

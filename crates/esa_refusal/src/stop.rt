@@ -1,13 +1,17 @@
 //! Why a command took nothing in.
 
 ghost use Rattle.std.specs.Prelude.{◌≡◌};
-ghost use Rattle.esa_refusal.specs.Stop.{stop_of_job, stop_of_keys, stop_of_forward, stop_of_database};
+ghost use Rattle.esa_refusal.specs.Stop.{stop_of_job, stop_of_keys, stop_of_forward, stop_of_database, stop_of_encode, stop_of_add, stop_of_batch, stop_of_turns, stop_of_coins};
 ghost use Rattle.esa_refusal.specs.declared.stop.Stop.TheVariants.{OutOfMemory};
 
 use crate::refusal::Refusal;
 use crate::source::Source;
 use esa_analyser::DbRefused;
+use esa_batcher::{AddRefused, BatchRefused};
+use esa_coins::CoinsRefused;
+use esa_encoder::EncodeRefused;
 use esa_job::{JobRefused, KeysRefused};
+use esa_model::TurnsRefused;
 use esa_threshold::ForwardRefused;
 use std::alloc::AllocError;
 
@@ -71,6 +75,63 @@ impl From<DbRefused> for Stop {
         match refused {
             DbRefused::OutOfMemory => Stop::OutOfMemory,
             refused => Stop::Refused(Refusal::Database(refused)),
+        }
+    }
+}
+
+impl From<EncodeRefused> for Stop {
+    ghost from_gives = { λ refused stop. stop ≡ stop_of_encode refused };
+
+    fn from(refused: EncodeRefused) -> Stop {
+        match refused {
+            EncodeRefused::Line(refused) => Stop::Refused(Refusal::Line(refused)),
+            EncodeRefused::TooMany { n } => Stop::Refused(Refusal::Lines { n }),
+            EncodeRefused::OutOfMemory => Stop::OutOfMemory,
+        }
+    }
+}
+
+impl From<AddRefused> for Stop {
+    ghost from_gives = { λ refused stop. stop ≡ stop_of_add refused };
+
+    fn from(refused: AddRefused) -> Stop {
+        match refused {
+            AddRefused::Line(refused) => Stop::Refused(Refusal::Line(refused)),
+            AddRefused::TooMany { n } => Stop::Refused(Refusal::Lines { n }),
+            AddRefused::OutOfMemory => Stop::OutOfMemory,
+        }
+    }
+}
+
+impl From<BatchRefused> for Stop {
+    ghost from_gives = { λ refused stop. stop ≡ stop_of_batch refused };
+
+    fn from(refused: BatchRefused) -> Stop {
+        match refused {
+            BatchRefused::OutOfMemory => Stop::OutOfMemory,
+            refused => Stop::Refused(Refusal::Batch(refused)),
+        }
+    }
+}
+
+impl From<TurnsRefused> for Stop {
+    ghost from_gives = { λ refused stop. stop ≡ stop_of_turns refused };
+
+    fn from(refused: TurnsRefused) -> Stop {
+        match refused {
+            TurnsRefused::Line(line) => Stop::Refused(Refusal::Turns(line)),
+            TurnsRefused::OutOfMemory => Stop::OutOfMemory,
+        }
+    }
+}
+
+impl From<CoinsRefused> for Stop {
+    ghost from_gives = { λ refused stop. stop ≡ stop_of_coins refused };
+
+    fn from(refused: CoinsRefused) -> Stop {
+        match refused {
+            CoinsRefused::OutOfMemory => Stop::OutOfMemory,
+            refused => Stop::Refused(Refusal::Coins(refused)),
         }
     }
 }

@@ -1,17 +1,18 @@
-use Rattle.std.proofs.Common.{◌≡◌, ◌⊎◌, Err, ap, sym, subst, ◌∙◌, arith}
+use Rattle.std.proofs.Common.{◌≡◌, ◌⊎◌, Err, refl, ap, sym, subst, ◌∙◌, arith}
 use Rattle.std.specs.Prelude.{unwrap_or, []}
 use Rattle.std.proofs.lemmas.Result.{err_from_is_err_and}
 use Rattle.esa_job.specs.Refusal.{job_of}
 use Rattle.esa_job.specs.Seen.{request_of}
 use Rattle.esa_job.specs.declared.job.JobRefused.TheVariants.{OutOfMemory}
-use Rattle.esa_refusal.specs.Stop.{job_refusal}
+use Rattle.esa_refusal.specs.Stop.{job_refusal, stop_of_job}
+use Rattle.esa_refusal.proofs.Stops.{job_stops}
 use Rattle.esa_command.specs.Taking.{job_file}
 use Rattle.esa_refusal.specs.declared.source.Source.TheVariants as source
 use Rattle.esa_command.specs.Stand.{stand}
 use Rattle.esa_command.specs.Step.{file}
 use Rattle.esa_command.specs.Taking.{read_step, name_of}
-use Rattle.esa_command.proofs.Composition.{judged_stop, judged_made, judged_not_made}
-use Rattle.esa_command.proofs.Readers.{job_stop}
+use Rattle.esa_command.proofs.Composition.{judged_stop}
+use Rattle.esa_command.proofs.Readers.{judged_read, judged_unread}
 use Rattle.esa_command.proofs.taking.take_job.Goals as goal
 
 pub returns-in_err-text-clause-judged : goal.returns-in_err-text-clause-judged
@@ -27,13 +28,16 @@ unfolding job_file
 returns-in_err-read-clause-judged g c =
     let p = err_from_is_err_and c.from_residual-in_err-read.result c.from_residual-in_err-read.ensures.1 in
     let stands = stand g.K.Cabinet.told g.K.Cabinet.faults g.K.Cabinet.heard in
-    rw (p.1, p.2) (judged_not_made 0 1 (λ bytes. bytes.items) request_of (file c.args.command source.Job c.args.name.now) (λ text. read_step job_refusal (job_of c.args.command c.args.crew_allowed c.args.name.now text)) c.in_ok-text.text
-    (stands c.args.cabinet.now) (stands c.read_file.new.cabinet) c.in_ok-text.ensures (job_refusal c.in_err-read.field-0.0) _ (job_stop c.in_err-read.field-0.0 (job_of c.args.command c.args.crew_allowed c.args.name.now c.in_ok-text.text.items)
-    (subst (λ bytes. (c.in_err-read.field-0.0 ≡ OutOfMemory) ⊎ (job_of c.args.command c.args.crew_allowed c.args.name.now bytes ≡ Err c.in_err-read.field-0.0)) c.deref.ensures.value c.in_err-read.ensures.err)))
+    let error = c.in_err-read.field-0.0 in
+    let reader = job_of c.args.command c.args.crew_allowed c.args.name.now in
+    rw (p.1, p.2) (judged_unread 0 1 (λ bytes. bytes.items) request_of (file c.args.command source.Job c.args.name.now) job_refusal reader c.in_ok-text.text
+    (stands c.args.cabinet.now) (stands c.read_file.new.cabinet) c.in_ok-text.ensures OutOfMemory error stop_of_job refl (job_stops error)
+    (subst (λ bytes. (error ≡ OutOfMemory) ⊎ (reader bytes ≡ Err error)) c.deref.ensures.value c.in_err-read.ensures.err))
 
 pub returns-clause-judged : goal.returns-clause-judged
 unfolding job_file
 returns-clause-judged g c =
     let stands = stand g.K.Cabinet.told g.K.Cabinet.faults g.K.Cabinet.heard in
-    judged_made 0 1 (λ bytes. bytes.items) request_of (file c.args.command source.Job c.args.name.now) (λ text. read_step job_refusal (job_of c.args.command c.args.crew_allowed c.args.name.now text)) c.in_ok-text.text
-    (stands c.args.cabinet.now) (stands c.read_file.new.cabinet) c.in_ok-text.ensures c.in_ok-read.field-0 (ap (λ bytes. read_step job_refusal (job_of c.args.command c.args.crew_allowed c.args.name.now bytes)) (sym c.deref.ensures.value) ∙ ap (read_step job_refusal) c.in_ok-read.ensures.ok)
+    let reader = job_of c.args.command c.args.crew_allowed c.args.name.now in
+    judged_read 0 1 (λ bytes. bytes.items) request_of (file c.args.command source.Job c.args.name.now) job_refusal reader c.in_ok-text.text
+    (stands c.args.cabinet.now) (stands c.read_file.new.cabinet) c.in_ok-text.ensures c.in_ok-read.field-0 (ap reader (sym c.deref.ensures.value) ∙ c.in_ok-read.ensures.ok)

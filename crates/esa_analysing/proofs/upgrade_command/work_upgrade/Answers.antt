@@ -1,0 +1,29 @@
+use Rattle.std.proofs.Common.{◌≡◌, ◌++◌, codes, refl, subst, ◌∙◌}
+use Rattle.esa_params.specs.declared.form.Form.TheVariants.{Two}
+use Rattle.esa_analyser.specs.Rows.{database_bytes}
+use Rattle.esa_refusal.specs.Refusal.{numbered}
+use Rattle.esa_refusal.specs.declared.source.Sink.TheVariants.{Output}
+use Rattle.esa_command.specs.Doing.{one_of_each}
+use Rattle.esa_command.specs.Settled.{Settles}
+use Rattle.esa_command.specs.Stand.{stand}
+use Rattle.esa_command.specs.Work.{Write}
+use Rattle.esa_command.proofs.Settling.{writes_it}
+use Rattle.esa_analysing.specs.Analyse.{counted_text}
+use Rattle.esa_analysing.proofs.Upgrades.{values_fit}
+use Rattle.esa_analysing.proofs.upgrade_command.work_upgrade.Goals as goal
+
+pub returns : goal.returns
+returns g c =
+    let cabinet = stand g.K.Cabinet.told g.K.Cabinet.faults g.K.Cabinet.heard in
+    let printer = stand g.P.Printer.told g.P.Printer.faults g.P.Printer.heard in
+    let before = cabinet c.args.cabinet.now in
+    let now = cabinet c.write_db-saved.new.cabinet in
+    let write : Write = record { sink = Output; name = c.args.output.now; bytes = database_bytes Two c.args.db.now.database } in
+    let text : c.counted_line-line.result ≡ counted_text c.args.db.now.database =
+    c.counted_line-line.ensures ∙ (λ i. numbered (codes "rows ") (c.rows.ensures i) ++ numbered (codes " unopened ") (c.unopened.ensures i)) in
+    let all = c.write_db-saved.ensures in
+    subst (λ line. Settles (one_of_each write line) before now (printer c.args.printer.now) (printer c.settle_one.new.printer) c.settle_one.result) text
+    (c.settle_one.ensures write before now refl (writes_it c.write_db-saved.result write before now all.cause all.written all.failed all.silent all.heard all.heard_broken))
+
+pub write_db-saved-requires : goal.write_db-saved-requires
+write_db-saved-requires g c = values_fit _ _ c.requires

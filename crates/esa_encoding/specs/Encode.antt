@@ -1,0 +1,79 @@
+-- What encode takes in, writes and prints.
+use Rattle.std.specs.Prelude.{ℕ, Bool, false, is_some, if◌then◌else◌, List, [], ◌∷◌, length, codes, unwrap_or, Result}
+use Rattle.esa_bytes.specs.Lines.{text_lines}
+use Rattle.esa_envelope.specs.declared.keys.Keys.{Keys}
+use Rattle.esa_envelope.specs.declared.label.Label.{Label}
+use Rattle.esa_envelope.specs.declared.label.Label.TheVariants.{Inner, Outer}
+use Rattle.esa_envelope.specs.Keys.{record_keys}
+use Rattle.esa_encoder.specs.declared.submission.EncodeRefused.{EncodeRefused}
+use Rattle.esa_encoder.specs.Encoded.{encoded}
+use Rattle.esa_job.specs.declared.command.Command.TheVariants as command
+use Rattle.esa_job.specs.declared.field.JobField.TheVariants as field
+use Rattle.esa_job.specs.Request.{Request, number_at}
+use Rattle.esa_job.specs.Keys.{Ring}
+use Rattle.esa_refusal.specs.declared.refusal.Refusal.TheVariants as refusal
+use Rattle.esa_refusal.specs.declared.source.Source.TheVariants as source
+use Rattle.esa_refusal.specs.declared.source.Sink.TheVariants.{Output}
+use Rattle.esa_refusal.specs.declared.status.Status.TheVariants as status
+use Rattle.esa_refusal.specs.Refusal.{numbered}
+use Rattle.esa_refusal.specs.Stop.{encode_refusal}
+use Rattle.esa_command.specs.Asked.{number_of, form_asked}
+use Rattle.esa_command.specs.Step.{Step, ◌>>=◌, accepted, refused, Reads, file}
+use Rattle.esa_command.specs.Taking.{name_of, read_step, job_file, keys_file}
+use Rattle.esa_command.specs.Work.{Work}
+
+-- ---- the submissions of reports
+
+-- the keys that seal the envelopes of a label, for the form and the epoch that a job asks for
+abbrev pub sealing_keys : Request → List ℕ → Label → Keys
+sealing_keys job master label = record_keys (form_asked job) (number_of job field.Epoch) master label
+
+-- the submissions of reports, by what a job asks for and under its keys
+abbrev pub encoded_by : Request → Ring → List ℕ → Result (List ℕ) EncodeRefused
+encoded_by job ring reports =
+    encoded (form_asked job) (sealing_keys job (unwrap_or ring.outer []) Outer) (sealing_keys job (unwrap_or ring.inner []) Inner)
+    (number_of job field.NonceBase) reports
+
+-- the submissions, and the number of their lines
+abbrev pub sealed : Request → Ring → List ℕ → Step (List ℕ × ℕ)
+sealed job ring reports = read_step encode_refusal (encoded_by job ring reports) >>= λ bytes. accepted (bytes, length (text_lines reports))
+
+-- ---- the steps
+
+-- a job that asks for shares asks for what isn't built yet
+abbrev pub unless_shares : Request → Step Request
+unless_shares job = if is_some (number_at job field.Shares) then refused (refusal.NotBuilt command.Encode) else accepted job
+
+unfoldable pub whole_job : Bool → List ℕ → Reads → Step Request
+whole_job crew_allowed name read = job_file command.Encode crew_allowed name read >>= unless_shares
+
+-- the reports of a job, sealed
+unfoldable pub reports_file : Request → Ring → Reads → Step (List ℕ × ℕ)
+reports_file job ring read = file command.Encode source.Input (name_of job field.Input) read >>= sealed job ring
+
+-- the line that tells how many were encoded
+abbrev pub encoded_text : ℕ → List ℕ
+encoded_text lines = numbered (codes "encoded ") lines
+
+-- the submissions are written, and their number is printed
+abbrev pub encode_work : (output submissions : List ℕ) → ℕ → Work
+encode_work output submissions lines = record {
+  ended = status.Ok;
+  writes = record { sink = Output; name = output; bytes = submissions } ∷ [];
+  prints = encoded_text lines ∷ [];
+}
+
+abbrev pub encoded_work : Request → List ℕ × ℕ → Step Work
+encoded_work job made = accepted (encode_work (name_of job field.Output) made.0 made.1)
+
+-- with the job and the keys: the reports
+abbrev pub encode_keyed : Request → Reads → Ring → Step Work
+encode_keyed job read ring = reports_file job ring read >>= encoded_work job
+
+-- with the job: its keys
+abbrev pub encode_asked : Reads → Request → Step Work
+encode_asked read job = keys_file command.Encode false job read >>= encode_keyed job read
+
+-- encode: the job, its keys and its reports
+unfoldable pub encode_steps : Bool → List ℕ → Reads → Step Work
+encode_steps crew_allowed name read = whole_job crew_allowed name read >>= encode_asked read

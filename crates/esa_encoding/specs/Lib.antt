@@ -1,0 +1,3 @@
+pub mod Generate
+pub mod Encode
+pub mod Encoded
