@@ -37,6 +37,17 @@ no_second x m least most second = elim (cases_lt (x + 1) m) [
 ]
 
 module _ {C : Type 0} (b : ℕ) (h : List ℕ) (w : Working C) (in_round : IsInRound b h w) where
+  -- private work
+  pub prepared_round : (new : Working C) → new.number ≡ w.number → new.phase ≡ w.phase → new.bucket ≡ w.bucket
+      → (HasRead w.stage → HasRead new.stage) → (HasExchanged w.stage → HasExchanged new.stage) → IsInRound b h new
+  prepared_round new number phase bucket read exchanged = record {
+    phase = phase ∙ in_round.phase ∙ ap (next_phase b h) (sym number);
+    bucket = λ more.
+        bucket ∙ in_round.bucket (λ none. more (phase ∙ none)) ∙ ap (λ (v : ℕ). min (held b h v) b) (sym number);
+    read = λ second inside. read (in_round.read (sym phase ∙ second) (subst (λ (j : ℕ). j < b) bucket inside));
+    exchanged = λ third inside. exchanged (in_round.exchanged (subst (λ (x : ℕ). 3 ≤ x) phase third) (subst (λ (j : ℕ). j < b) bucket inside));
+  }
+
   phase_is : next_phase b h w.number ≡ w.phase
   phase_is = sym in_round.phase
 

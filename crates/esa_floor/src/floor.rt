@@ -1,9 +1,10 @@
 //! A floor: what the turns of a run work on.
 
-ghost use Rattle.std.specs.Prelude.{◌≡◌, ◌≢◌, ℕ, ◌+◌, ◌*◌, ◌<◌, ◌≤◌, ◌↔◌, ◌++◌, ◌∷◌, [], min, Some, None, IsTrue, IfOk, IfErr, IsOk, OnOk, OnErr, length};
+ghost use Rattle.std.specs.Prelude.{◌≡◌, ◌≢◌, ℕ, ◌+◌, ◌-◌, ◌*◌, ◌<◌, ◌≤◌, ◌↔◌, ◌++◌, ◌∷◌, [], min, Some, None, IsTrue, IfOk, IfErr, IsOk, OnOk, OnErr, length, option_to_list};
 ghost use Rattle.esa_params.specs.Sizes.{size};
-ghost use Rattle.esa_params.specs.Slots.{greatest_trace};
+ghost use Rattle.esa_params.specs.Slots.{access_of, at, greatest_trace};
 ghost use Rattle.esa_spec.specs.Draws.{drawn};
+ghost use Rattle.esa_spec.specs.Traces.{asked, chunk_slot};
 ghost use Rattle.esa_spec.specs.Turns.{held, next, next_phase};
 ghost use Rattle.esa_stash.specs.Stash.{empty_stash, padded, queue_at, without};
 ghost use Rattle.esa_floor.specs.Acts.{answer_in, answer_of, counted_after};
@@ -20,7 +21,7 @@ use crate::turn::{Outcome, Stop, Turn};
 use crate::worker::{Stage, Worker};
 use esa_device::{Device, Recorder};
 use esa_envelope::Keys;
-use esa_params::Plan;
+use esa_params::{Op, Plan, Region};
 use esa_report::Item;
 use esa_spec::Coins;
 use esa_stash::Left;
@@ -366,6 +367,7 @@ impl<V: Device, G: Told> Floor<V, G> {
         ensures room { self.old.recorder.room ≡ self.new.recorder.room + 1 }
         ensures ready { self.new.recorder.plan ≡ self.old.recorder.plan }
         ensures trace { length self.new.recorder.trace ≡ length self.old.recorder.trace + 1 }
+        ensures access { self.new.recorder.trace ≡ self.old.recorder.trace ++ access_of self.old.plan (attempt_begun self.old) Op.Read (at Region.Input worker.old.bucket) ∷ [] }
         ensures worker { self.new.stop ≡ None → worker.new ≡ record worker.old { phase = 2; stage = Stage.Envelopes; buffers = record worker.old.buffers { text = worker.new.buffers.text; sealed = worker.new.buffers.sealed } } }
         ensures kept { worker.new ≡ moved worker.old worker.new }
     {
@@ -418,6 +420,7 @@ impl<V: Device, G: Told> Floor<V, G> {
         ensures room { self.old.recorder.room ≡ self.new.recorder.room + 1 }
         ensures ready { self.new.recorder.plan ≡ self.old.recorder.plan }
         ensures trace { length self.new.recorder.trace ≡ length self.old.recorder.trace + 1 }
+        ensures access { self.new.recorder.trace ≡ self.old.recorder.trace ++ access_of self.old.plan (attempt_begun self.old) Op.Write (chunk_slot self.old.plan worker.old.bucket (worker.old.phase - 3)) ∷ [] }
         ensures last { self.new.recorder.last ≡ self.old.recorder.last }
         ensures worker { self.new.stop ≡ None → worker.new ≡ passed worker.old }
         ensures kept { worker.new ≡ moved worker.old worker.new }
@@ -454,6 +457,7 @@ impl<V: Device, G: Told> Floor<V, G> {
         ensures ready { self.new.recorder.plan ≡ self.old.recorder.plan }
         ensures room { length self.new.recorder.trace + self.new.recorder.room ≡ length self.old.recorder.trace + self.old.recorder.room }
         ensures few { length self.new.recorder.trace ≤ length self.old.recorder.trace + 1 }
+        ensures access { self.new.recorder.trace ≡ self.old.recorder.trace ++ option_to_list (asked self.old.plan (attempt_begun self.old) (next self.old.plan.b (turns_made self.old) worker.old.number)) }
         ensures round { self.new.stop ≡ None → IsInRound self.old.plan.b (turns_made self.old ++ worker.old.number ∷ []) worker.new }
         ensures moved { worker.new ≡ moved worker.old worker.new }
     {
@@ -491,6 +495,7 @@ impl<V: Device, G: Told> Floor<V, G> {
         ensures ready { self.new.recorder.plan ≡ self.old.recorder.plan }
         ensures room { length self.new.recorder.trace + self.new.recorder.room ≡ length self.old.recorder.trace + self.old.recorder.room }
         ensures few { length self.new.recorder.trace ≤ length self.old.recorder.trace + 1 }
+        ensures access { self.new.recorder.trace ≡ self.old.recorder.trace ++ option_to_list (asked self.old.plan (attempt_begun self.old) (next self.old.plan.b (turns_made self.old) worker.old.number)) }
         ensures round { self.new.stop ≡ None → IsInRound self.old.plan.b (turns_made self.old ++ worker.old.number ∷ []) worker.new }
         ensures moved { worker.new ≡ moved worker.old worker.new }
     {
@@ -514,6 +519,7 @@ impl<V: Device, G: Told> Floor<V, G> {
         ensures answer { result ≡ answer_in self.old.attempt (next self.old.plan.b (turns_made self.old) worker.old.number) self.new.stop }
         ensures kept { self.new ≡ record self.old { recorder = self.new.recorder; stash = self.new.stash; counts = self.new.counts; counted = self.new.counted; stop = self.new.stop } }
         ensures few { length self.new.recorder.trace ≤ length self.old.recorder.trace + 1 }
+        ensures access { self.old.attempt ≢ None → self.old.stop ≡ None → self.new.recorder.trace ≡ self.old.recorder.trace ++ option_to_list (asked self.old.plan (attempt_begun self.old) (next self.old.plan.b (turns_made self.old) worker.old.number)) }
         ensures later { self.old.stop ≢ None → self.new ≡ self.old }
         ensures idle { self.old.attempt ≡ None → self.new ≡ self.old }
         ensures worker { self.old.attempt ≢ None → WorkerStands (with_entry self.new worker.old.number) worker.new }
@@ -550,6 +556,7 @@ impl<V: Device, G: Told> Floor<V, G> {
         ensures attempt { self.new.attempt ≡ self.old.attempt }
         ensures outcome { self.new.outcome ≡ self.old.outcome }
         ensures few { length self.new.recorder.trace ≤ length self.old.recorder.trace + 1 }
+        ensures access { self.old.attempt ≢ None → self.old.stop ≡ None → self.new.recorder.trace ≡ self.old.recorder.trace ++ option_to_list (asked self.old.plan (attempt_begun self.old) (next self.old.plan.b (turns_made self.old) worker.old.number)) }
         ensures later { self.old.stop ≢ None → self.new ≡ with_entry self.old worker.old.number }
         ensures idle { self.old.attempt ≡ None → self.new ≡ with_entry self.old worker.old.number }
         ensures worker { self.old.attempt ≢ None → WorkerStands self.new worker.new }
