@@ -1,8 +1,11 @@
 -- What the next turn of a worker does, by its phase and by its bucket.
-use Rattle.std.proofs.Common.{◌≡◌, ◌≢◌, ℕ, ◌-◌, ◌<◌, ◌≤◌, true, false, Bool, List, ap, ◌∙◌, arith}
+use Rattle.std.proofs.Common.{◌≡◌, ◌≢◌, ℕ, ◌-◌, ◌<◌, ◌≤◌, true, false, Bool, List, None, ap, inl, inr, ◌∙◌, arith}
 use Rattle.std.specs.Prelude.{◌==◌, nat_lt, if◌then◌else◌}
+use Rattle.std.proofs.lemmas.Bool.{cases_lt}
 use Rattle.std.proofs.lemmas.Bool.Decides.{nat_tests}
 use Rattle.esa_laws.proofs.TurnLaws.{next-is}
+use Rattle.esa_params.specs.Sizes.{Sizes}
+use Rattle.esa_spec.specs.Traces.{asked}
 use Rattle.esa_spec.specs.Turns.{acted, claims, event_of, held, next, next_phase}
 use Rattle.esa_spec.specs.declared.event.Event.{Event}
 use Rattle.esa_spec.specs.declared.event.Event.TheVariants.{Claim, Read, Exchange, Write, Done, Idle}
@@ -26,6 +29,13 @@ module _ (b : ℕ) (h : List ℕ) (w : ℕ) where
   next_is_done first none =
       next-is b h w ∙ ap (λ (x : ℕ). acted b (claims b h) x (held b h w)) first
       ∙ ap (λ (t : Bool). if t then Claim (claims b h) else Done) (past (claims b h) b none)
+
+  -- the first turn of a round makes no access
+  pub quiet_first : (p : Sizes) (a : ℕ) → next_phase b h w ≡ 0 → asked p a (next b h w) ≡ None
+  quiet_first p a first = elim (cases_lt (claims b h) b) [
+    | inl some ↦ ap (asked p a) (next_claims first some)
+    | inr none ↦ ap (asked p a) (next_is_done first none)
+  ]
 
   later : next_phase b h w ≢ 0 → next b h w ≡ event_of b (held b h w) (next_phase b h w)
   later more =

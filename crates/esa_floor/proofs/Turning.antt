@@ -60,7 +60,7 @@ module _ {V : Type 0} (faults : V → ℕ) (ds : ℕ → Draw) (f : Parts V) (a 
     pub spread_is : IsSpread f.plan (ds a) h f.stash f.counts f.counted
     spread_is = subst (λ (g : List ℕ). IsSpread f.plan (ds a) g f.stash f.counts f.counted) front_is at_work.spread
 
-    traced_is : f.recorder.trace ≡ (load f.plan ++ attempts f.plan ds 0 (lists_before f)) ++ spread f.plan (ds a) a h
+    pub traced_is : f.recorder.trace ≡ (load f.plan ++ attempts f.plan ds 0 (lists_before f)) ++ spread f.plan (ds a) a h
     traced_is =
         at_work.traced ∙ ap (λ (g : List ℕ). (load f.plan ++ attempts f.plan ds 0 (lists_before f)) ++ spread f.plan (ds a) a g)
         (take_all (at_work.done + 1) h (let all = all_made.0 in omega arith))

@@ -21,6 +21,11 @@ answer_of (event.Write j i) None = turn.Wrote j i
 answer_of event.Done None = turn.Done
 answer_of event.Idle None = turn.Idle
 
+-- the same on a floor that may be in no attempt
+abbrev pub answer_in : Option ℕ → Event → Option Stop → Turn
+answer_in None e s = turn.Done
+answer_in (Some a) e s = answer_of e s
+
 -- the answer of a turn that would answer this, by the stop that there is after it
 abbrev pub answered : Turn → Option Stop → Turn
 answered t None = t

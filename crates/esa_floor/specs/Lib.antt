@@ -4,4 +4,5 @@ pub mod Marks
 pub mod Parts
 pub mod Private
 pub mod Standing
+pub mod Workers
 pub mod Working

@@ -9,6 +9,7 @@ ghost use Rattle.esa_vault.specs.Placed.{IsSpelled};
 ghost use Rattle.esa_vault.specs.Seals.{opens};
 ghost use Rattle.esa_floor.specs.Acts.{StopsExchanging, StopsReading, StopsWriting, answered, one_more};
 ghost use Rattle.esa_floor.specs.Exchanges.{AreOf};
+ghost use Rattle.esa_floor.specs.Workers.{moved};
 ghost use Rattle.esa_floor.specs.Working.{AreDrawn, AreOpened, IsBegun, attempt_in, handed_by, passed};
 
 use crate::exchanger::Exchanger;
@@ -33,6 +34,7 @@ pub(crate) fn read<V: Device, C: Coins>(
     ensures ready { recorder.new.plan ≡ recorder.old.plan }
     ensures stops { StopsReading (number_of worker.old.buffers.plan (at Region.Input worker.old.bucket)) (opens worker.old.buffers.plan worker.old.run (at Region.Input worker.old.bucket) (attempt_in worker.old.attempt) 0 recorder.new.last) (V.faults recorder.old.device) (V.faults recorder.new.device) result }
     ensures worker { result ≡ None → worker.new ≡ record worker.old { phase = 2; stage = Stage.Envelopes; buffers = record worker.old.buffers { text = worker.new.buffers.text; sealed = worker.new.buffers.sealed } } }
+    ensures kept { worker.new ≡ moved worker.old worker.new }
 {
     match worker.read(recorder) {
         Ok(()) => None,
@@ -51,6 +53,7 @@ pub(crate) fn exchange<C: Coins>(
     requires spelled { All (All (IsSpelled (item_length worker.old.buffers.plan.form))) exchanger.old.stash.queues }
     ensures stops { StopsExchanging exchanger.old exchanger.new worker.old.bucket (handed_by worker.old.buffers worker.old.bucket) result }
     ensures worker { result ≡ None → worker.new ≡ record worker.old { phase = 3; stage = Stage.Chunks; buffers = record worker.old.buffers { chunks = worker.new.buffers.chunks } } }
+    ensures kept { worker.new ≡ moved worker.old worker.new }
     ensures drawn { AreDrawn (C.target_list worker.old.coins (attempt_in worker.old.attempt) worker.old.bucket) worker.old.buffers worker.old.bucket }
     ensures opened { AreOpened worker.old.outer worker.old.buffers worker.old.bucket }
     ensures text { length worker.old.buffers.text ≡ size worker.old.buffers.plan 0 * envelope_length worker.old.buffers.plan.form }
@@ -79,6 +82,7 @@ pub(crate) fn write<V: Device, C: Coins>(
     ensures last { recorder.new.last ≡ recorder.old.last }
     ensures stops { StopsWriting (number_of worker.old.buffers.plan (chunk_slot worker.old.buffers.plan worker.old.bucket (worker.old.phase - 3))) (V.faults recorder.old.device) (V.faults recorder.new.device) result }
     ensures worker { result ≡ None → worker.new ≡ passed worker.old }
+    ensures kept { worker.new ≡ moved worker.old worker.new }
 {
     match worker.write(recorder) {
         Ok(()) => None,

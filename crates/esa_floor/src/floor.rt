@@ -1,13 +1,16 @@
 //! A floor: what the turns of a run work on.
 
-ghost use Rattle.std.specs.Prelude.{◌≡◌, ◌≢◌, ℕ, ◌+◌, ◌*◌, ◌<◌, ◌≤◌, ◌↔◌, [], min, Some, None, IsTrue, IfOk, IfErr, IsOk, OnOk, OnErr, length};
+ghost use Rattle.std.specs.Prelude.{◌≡◌, ◌≢◌, ℕ, ◌+◌, ◌-◌, ◌*◌, ◌<◌, ◌≤◌, ◌↔◌, ◌++◌, ◌∷◌, [], min, Some, None, IsTrue, IfOk, IfErr, IsOk, OnOk, OnErr, length, option_to_list};
 ghost use Rattle.esa_params.specs.Sizes.{size};
-ghost use Rattle.esa_params.specs.Slots.{greatest_trace};
+ghost use Rattle.esa_params.specs.Slots.{access_of, at, greatest_trace};
 ghost use Rattle.esa_spec.specs.Draws.{drawn};
+ghost use Rattle.esa_spec.specs.Traces.{asked, chunk_slot};
 ghost use Rattle.esa_spec.specs.Turns.{held, next, next_phase};
 ghost use Rattle.esa_stash.specs.Stash.{empty_stash, padded, queue_at, without};
-ghost use Rattle.esa_floor.specs.Acts.{answer_of, counted_after};
-ghost use Rattle.esa_floor.specs.Working.{passed};
+ghost use Rattle.esa_floor.specs.Acts.{answer_in, answer_of, counted_after};
+ghost use Rattle.esa_floor.specs.Marks.{mark_of, roots_of};
+ghost use Rattle.esa_floor.specs.Workers.{IsInRound, IsOfFloor, WorkerStands, moved};
+ghost use Rattle.esa_floor.specs.Working.{IsReady, Working, passed};
 ghost use Rattle.esa_floor.specs.Parts.{begun_as, count_at, ended_as, no_counts, nothing_counted, with_entry};
 ghost use Rattle.esa_floor.specs.Standing.{IsAtWork, Stands, attempt_begun, turns_made};
 
@@ -18,7 +21,7 @@ use crate::turn::{Outcome, Stop, Turn};
 use crate::worker::{Stage, Worker};
 use esa_device::{Device, Recorder};
 use esa_envelope::Keys;
-use esa_params::Plan;
+use esa_params::{Op, Plan, Region};
 use esa_report::Item;
 use esa_spec::Coins;
 use esa_stash::Left;
@@ -364,7 +367,9 @@ impl<V: Device, G: Told> Floor<V, G> {
         ensures room { self.old.recorder.room ≡ self.new.recorder.room + 1 }
         ensures ready { self.new.recorder.plan ≡ self.old.recorder.plan }
         ensures trace { length self.new.recorder.trace ≡ length self.old.recorder.trace + 1 }
+        ensures access { self.new.recorder.trace ≡ self.old.recorder.trace ++ access_of self.old.plan (attempt_begun self.old) Op.Read (at Region.Input worker.old.bucket) ∷ [] }
         ensures worker { self.new.stop ≡ None → worker.new ≡ record worker.old { phase = 2; stage = Stage.Envelopes; buffers = record worker.old.buffers { text = worker.new.buffers.text; sealed = worker.new.buffers.sealed } } }
+        ensures kept { worker.new ≡ moved worker.old worker.new }
     {
         let bucket = worker.bucket();
         self.stop = acts::read(&mut self.recorder, worker);
@@ -387,6 +392,7 @@ impl<V: Device, G: Told> Floor<V, G> {
         ensures answer { result ≡ answer_of (next self.old.plan.b (turns_made self.old) worker.old.number) self.new.stop }
         ensures floor { self.new ≡ record self.old { stash = self.new.stash; counts = self.new.counts; stop = self.new.stop } }
         ensures worker { self.new.stop ≡ None → worker.new ≡ record worker.old { phase = 3; stage = Stage.Chunks; buffers = record worker.old.buffers { chunks = worker.new.buffers.chunks } } }
+        ensures kept { worker.new ≡ moved worker.old worker.new }
     {
         let bucket = worker.bucket();
         self.stop = acts::exchange(&mut self.exchanger, worker);
@@ -414,8 +420,10 @@ impl<V: Device, G: Told> Floor<V, G> {
         ensures room { self.old.recorder.room ≡ self.new.recorder.room + 1 }
         ensures ready { self.new.recorder.plan ≡ self.old.recorder.plan }
         ensures trace { length self.new.recorder.trace ≡ length self.old.recorder.trace + 1 }
+        ensures access { self.new.recorder.trace ≡ self.old.recorder.trace ++ access_of self.old.plan (attempt_begun self.old) Op.Write (chunk_slot self.old.plan worker.old.bucket (worker.old.phase - 3)) ∷ [] }
         ensures last { self.new.recorder.last ≡ self.old.recorder.last }
         ensures worker { self.new.stop ≡ None → worker.new ≡ passed worker.old }
+        ensures kept { worker.new ≡ moved worker.old worker.new }
     {
         let (bucket, target) = (worker.bucket(), worker.phase() - 3);
         let b = self.exchanger.plan().b();
@@ -442,9 +450,16 @@ impl<V: Device, G: Told> Floor<V, G> {
         requires later { 1 ≤ worker.old.phase }
         requires held { held self.old.plan.b (turns_made self.old) worker.old.number ≡ worker.old.bucket }
         requires bucket { worker.old.bucket < self.old.plan.b }
+        requires round { IsInRound self.old.plan.b (turns_made self.old) worker.old }
         ensures stands { IsAtWork V.faults G.draws (with_entry self.new worker.old.number) (attempt_begun self.old) }
         ensures answer { result ≡ answer_of (next self.old.plan.b (turns_made self.old) worker.old.number) self.new.stop }
         ensures kept { self.new ≡ record self.old { recorder = self.new.recorder; stash = self.new.stash; counts = self.new.counts; counted = self.new.counted; stop = self.new.stop } }
+        ensures ready { self.new.recorder.plan ≡ self.old.recorder.plan }
+        ensures room { length self.new.recorder.trace + self.new.recorder.room ≡ length self.old.recorder.trace + self.old.recorder.room }
+        ensures few { length self.new.recorder.trace ≤ length self.old.recorder.trace + 1 }
+        ensures access { self.new.recorder.trace ≡ self.old.recorder.trace ++ option_to_list (asked self.old.plan (attempt_begun self.old) (next self.old.plan.b (turns_made self.old) worker.old.number)) }
+        ensures round { self.new.stop ≡ None → IsInRound self.old.plan.b (turns_made self.old ++ worker.old.number ∷ []) worker.new }
+        ensures moved { worker.new ≡ moved worker.old worker.new }
     {
         let phase = worker.phase();
         if phase == 1 {
@@ -471,11 +486,18 @@ impl<V: Device, G: Told> Floor<V, G> {
         requires draws { (j : ℕ) → j < self.old.plan.b → C.target_list worker.old.coins (attempt_begun self.old) j ≡ (G.draws (attempt_begun self.old)).targets j }
         requires drawn { (j : ℕ) → j < self.old.plan.b → length ((G.draws (attempt_begun self.old)).targets j) ≡ size self.old.plan j }
         requires ready { self.old.recorder.plan ≡ Some self.old.plan }
-        requires room { 0 < self.old.recorder.room }
+        requires room { worker.old.bucket < self.old.plan.b → 0 < self.old.recorder.room }
         requires held { worker.old.phase ≢ 0 → worker.old.bucket ≡ min (held self.old.plan.b (turns_made self.old) worker.old.number) self.old.plan.b }
+        requires round { IsInRound self.old.plan.b (turns_made self.old) worker.old }
         ensures stands { IsAtWork V.faults G.draws (with_entry self.new worker.old.number) (attempt_begun self.old) }
         ensures answer { result ≡ answer_of (next self.old.plan.b (turns_made self.old) worker.old.number) self.new.stop }
         ensures kept { self.new ≡ record self.old { recorder = self.new.recorder; stash = self.new.stash; counts = self.new.counts; counted = self.new.counted; stop = self.new.stop } }
+        ensures ready { self.new.recorder.plan ≡ self.old.recorder.plan }
+        ensures room { length self.new.recorder.trace + self.new.recorder.room ≡ length self.old.recorder.trace + self.old.recorder.room }
+        ensures few { length self.new.recorder.trace ≤ length self.old.recorder.trace + 1 }
+        ensures access { self.new.recorder.trace ≡ self.old.recorder.trace ++ option_to_list (asked self.old.plan (attempt_begun self.old) (next self.old.plan.b (turns_made self.old) worker.old.number)) }
+        ensures round { self.new.stop ≡ None → IsInRound self.old.plan.b (turns_made self.old ++ worker.old.number ∷ []) worker.new }
+        ensures moved { worker.new ≡ moved worker.old worker.new }
     {
         if worker.phase() == 0 {
             return self.claim(worker);
@@ -484,5 +506,67 @@ impl<V: Device, G: Told> Floor<V, G> {
             return self.pass(worker);
         }
         self.go_on(worker)
+    }
+
+    /// What a worker's turn does and answers, on a floor that has still to get the worker's number.
+    fn take<C: Coins>(&mut self, worker: &mut Worker<'_, C>) -> Turn
+        requires room { length self.old.history < self.old.room }
+        requires stands { Stands V.faults G.plan G.draws self.old }
+        requires of { IsOfFloor G.draws (C.target_list worker.old.coins) self.old worker.old }
+        requires ready { IsReady worker.old.stage }
+        requires worker { self.old.attempt ≢ None → WorkerStands self.old worker.old }
+        ensures stands { Stands V.faults G.plan G.draws (with_entry self.new worker.old.number) }
+        ensures answer { result ≡ answer_in self.old.attempt (next self.old.plan.b (turns_made self.old) worker.old.number) self.new.stop }
+        ensures kept { self.new ≡ record self.old { recorder = self.new.recorder; stash = self.new.stash; counts = self.new.counts; counted = self.new.counted; stop = self.new.stop } }
+        ensures few { length self.new.recorder.trace ≤ length self.old.recorder.trace + 1 }
+        ensures access { self.old.attempt ≢ None → self.old.stop ≡ None → self.new.recorder.trace ≡ self.old.recorder.trace ++ option_to_list (asked self.old.plan (attempt_begun self.old) (next self.old.plan.b (turns_made self.old) worker.old.number)) }
+        ensures later { self.old.stop ≢ None → self.new ≡ self.old }
+        ensures idle { self.old.attempt ≡ None → self.new ≡ self.old }
+        ensures worker { self.old.attempt ≢ None → WorkerStands (with_entry self.new worker.old.number) worker.new }
+        ensures moved { worker.new ≡ moved worker.old worker.new }
+        ensures worker_later { self.old.stop ≢ None → worker.new ≡ worker.old }
+        ensures worker_idle { self.old.attempt ≡ None → worker.new ≡ worker.old }
+    {
+        if self.attempt.is_none() {
+            return Turn::Done;
+        }
+        match self.stop {
+            Some(stop) => Turn::Stopped(stop),
+            None => self.act(worker),
+        }
+    }
+}
+
+/// A turn of a worker.
+impl<V: Device, G: Told> Floor<V, G> {
+    /// A turn of a worker, which adds the worker's number to the history, also where it answers that the turns have
+    /// stopped. It does what the history that is longer by the number says, unless it fails or an earlier turn of the
+    /// attempt did: then it answers the first stop.
+    pub fn turn<C: Coins>(&mut self, worker: &mut Worker<'_, C>) -> Turn
+        requires room { length self.old.history < self.old.room }
+        requires stands { Stands V.faults G.plan G.draws self.old }
+        requires of { IsOfFloor G.draws (C.target_list worker.old.coins) self.old worker.old }
+        requires ready { IsReady worker.old.stage }
+        requires worker { self.old.attempt ≢ None → WorkerStands self.old worker.old }
+        ensures history { self.new.history ≡ self.old.history ++ worker.old.number ∷ [] }
+        ensures stands { Stands V.faults G.plan G.draws self.new }
+        ensures answer { result ≡ answer_in self.old.attempt (next self.old.plan.b (turns_made self.old) worker.old.number) self.new.stop }
+        ensures origin { roots_of self.new ≡ roots_of self.old }
+        ensures mark { mark_of self.old ≤ mark_of self.new }
+        ensures attempt { self.new.attempt ≡ self.old.attempt }
+        ensures outcome { self.new.outcome ≡ self.old.outcome }
+        ensures few { length self.new.recorder.trace ≤ length self.old.recorder.trace + 1 }
+        ensures access { self.old.attempt ≢ None → self.old.stop ≡ None → self.new.recorder.trace ≡ self.old.recorder.trace ++ option_to_list (asked self.old.plan (attempt_begun self.old) (next self.old.plan.b (turns_made self.old) worker.old.number)) }
+        ensures later { self.old.stop ≢ None → self.new ≡ with_entry self.old worker.old.number }
+        ensures idle { self.old.attempt ≡ None → self.new ≡ with_entry self.old worker.old.number }
+        ensures worker { self.old.attempt ≢ None → WorkerStands self.new worker.new }
+        ensures others { (other : Working C) → other.number ≢ worker.old.number → WorkerStands self.old other → WorkerStands self.new other }
+        ensures moved { worker.new ≡ moved worker.old worker.new }
+        ensures worker_later { self.old.stop ≢ None → worker.new ≡ worker.old }
+        ensures worker_idle { self.old.attempt ≡ None → worker.new ≡ worker.old }
+    {
+        let turn = self.take(worker);
+        self.history.push_reserved(worker.number());
+        turn
     }
 }

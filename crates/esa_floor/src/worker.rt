@@ -1,6 +1,6 @@
 //! A worker: what it holds of the bucket of its round, and its private work between turns.
 
-ghost use Rattle.std.specs.Prelude.{◌≡◌, ◌≢◌, ℕ, ◌+◌, ◌-◌, ◌*◌, ◌<◌, ◌≤◌, ◌↔◌, Some, None, All, IsTrue, IfOk, IsOk, OnOk, OnErr, length, take};
+ghost use Rattle.std.specs.Prelude.{◌≡◌, ◌≢◌, ℕ, ◌+◌, ◌-◌, ◌*◌, ◌<◌, ◌≤◌, ◌↔◌, Some, None, All, IsTrue, IfOk, IsOk, List, OnOk, OnErr, length, take};
 ghost use Rattle.esa_params.specs.Form.{envelope_length};
 ghost use Rattle.esa_params.specs.Sizes.{size};
 ghost use Rattle.esa_params.specs.Slots.{at, block_length, item_length, plain_length};
@@ -11,6 +11,7 @@ ghost use Rattle.esa_vault.specs.Seals.{opens};
 ghost use Rattle.esa_vault.specs.Traffic.{IsOpenedTo, IsRead, IsWritten};
 ghost use Rattle.esa_floor.specs.Exchanges.{AreOf};
 ghost use Rattle.esa_floor.specs.Parts.{count_at};
+ghost use Rattle.esa_floor.specs.Workers.{IsInRound};
 ghost use Rattle.esa_floor.specs.Working.{AreDrawn, AreOpened, IsBegun, IsReady, Prepares, attempt_in, begun_with, block_for, handed_by, passed};
 
 use crate::buffers::Buffers;
@@ -122,6 +123,8 @@ impl<'c, C: Coins> Worker<'c, C> {
     pub fn prepare(&mut self)
         ensures ready { IsReady self.new.stage }
         ensures prepared { Prepares (C.target_list self.old.coins) self.old self.new self.old.stage }
+        ensures kept { self.new ≡ record self.old { stage = self.new.stage; buffers = record self.old.buffers { items = self.new.buffers.items; targets = self.new.buffers.targets; blocks = self.new.buffers.blocks } } }
+        ensures round { (b : ℕ) (h : List ℕ) → IsInRound b h self.old → IsInRound b h self.new }
     {
         let attempt = self.attempt.unwrap_or(0);
         match self.stage {

@@ -1,0 +1,58 @@
+-- The worker is in its round after the act.
+use Rattle.std.proofs.Common.{◌≡◌, ◌≢◌, ◌++◌, ◌∷◌, [], Option, sym, ap, ◌∙◌, subst, arith, append-nil}
+use Rattle.std.specs.Option.{option_to_list}
+use Rattle.esa_params.specs.Sizes.{Sizes}
+use Rattle.esa_params.specs.declared.slot.Access.{Access}
+use Rattle.esa_spec.specs.Traces.{asked}
+use Rattle.esa_spec.specs.declared.event.Event.{Event}
+use Rattle.esa_floor.specs.Parts.{Parts}
+use Rattle.esa_floor.specs.Standing.{attempt_begun, turns_made}
+use Rattle.esa_floor.specs.Workers.{IsInRound}
+use Rattle.esa_floor.specs.Working.{Working}
+use Rattle.esa_floor.proofs.Acting.{next_is_idle, quiet_first}
+use Rattle.esa_floor.proofs.Rounding.{claim_round, pass_round}
+use Rattle.esa_floor.proofs.Turning.{spread_is}
+use Rattle.esa_floor.proofs.floor.Floor.act.Goals as goal
+
+pub returns-then-phase-eq0-clause-round : goal.returns-then-phase-eq0-clause-round
+returns-then-phase-eq0-clause-round g c = λ runs.
+    let f = c.args.self.now in
+    let w = c.args.worker.now in
+    subst (λ (w : Working _). IsInRound f.plan.b (turns_made f ++ c.args.worker.now.number ∷ []) w) (sym c.claim.ensures.worker)
+    (claim_round f.plan.b (turns_made f) w c.requires.round f.counted.claims (sym c.phase.ensures ∙ c.if-phase-eq0.true)
+    (spread_is g.V.Device.faults g.G.Told.draws f (attempt_begun f) w.number c.requires.at_work c.requires.number c.requires.runs).claims)
+
+pub returns-then-bucket-b-clause-round : goal.returns-then-bucket-b-clause-round
+returns-then-bucket-b-clause-round g c = λ runs.
+    let f = c.args.self.now in
+    let w = c.args.worker.now in
+    let b_is : c.b.result ≡ f.plan.b = c.b.ensures.value ∙ ap (λ (p : Sizes). p.b) (c.plan.ensures ∙ ap (λ (f : Parts _). f.plan) c.self.view_is) in
+    let phase_is = c.phase.ensures in
+    let bucket_is = c.bucket.ensures in
+    let none = c.if-bucket-b.true in
+    let later = c.if-phase-eq0.false in
+    let more : w.phase ≢ 0 = λ first. absurd (omega (arith, phase_is, later, first)) in
+    subst (λ (w : Working _). IsInRound f.plan.b (turns_made f ++ c.args.worker.now.number ∷ []) w) (sym c.pass.ensures.worker)
+    (pass_round f.plan.b (turns_made f) w c.requires.round more (omega (arith, b_is, bucket_is, none)) (ap (λ (p : Sizes). p.b) c.requires.plan))
+
+pub returns-then-phase-eq0-clause-access : goal.returns-then-phase-eq0-clause-access
+returns-then-phase-eq0-clause-access g c =
+    let f = c.args.self.now in
+    let w = c.args.worker.now in
+    let first = c.requires.phase ∙ sym c.phase.ensures ∙ c.if-phase-eq0.true in
+    ap (λ (x : Parts _). x.recorder.trace) c.claim.ensures.floor ∙ sym (append-nil f.recorder.trace)
+    ∙ ap (λ (o : Option Access). f.recorder.trace ++ option_to_list o) (sym (quiet_first f.plan.b (turns_made f) w.number f.plan (attempt_begun f) first))
+
+pub returns-then-bucket-b-clause-access : goal.returns-then-bucket-b-clause-access
+returns-then-bucket-b-clause-access g c =
+    let f = c.args.self.now in
+    let w = c.args.worker.now in
+    let b_is : c.b.result ≡ f.plan.b = c.b.ensures.value ∙ ap (λ (p : Sizes). p.b) (c.plan.ensures ∙ ap (λ (f : Parts _). f.plan) c.self.view_is) in
+    let phase_is = c.phase.ensures in
+    let bucket_is = c.bucket.ensures in
+    let none = c.if-bucket-b.true in
+    let later = c.if-phase-eq0.false in
+    let more : w.phase ≢ 0 = λ first. absurd (omega (arith, phase_is, later, first)) in
+    let held_is = c.requires.held more in
+    let idle = next_is_idle f.plan.b (turns_made f) w.number (λ first. more (sym c.requires.phase ∙ first)) (omega (arith, held_is, bucket_is, b_is, none)) in
+    sym (append-nil f.recorder.trace) ∙ ap (λ (e : Event). f.recorder.trace ++ option_to_list (asked f.plan (attempt_begun f) e)) (sym idle)

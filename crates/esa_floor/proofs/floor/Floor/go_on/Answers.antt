@@ -1,0 +1,72 @@
+-- The worker is in its round after the act.
+use Rattle.std.proofs.Common.{ℕ, ◌-◌, ◌≤◌, ◌++◌, ◌∷◌, [], sym, ap, ◌∙◌, subst, arith, append-nil}
+use Rattle.std.specs.Option.{option_to_list}
+use Rattle.esa_params.specs.Sizes.{Sizes}
+use Rattle.esa_spec.specs.Traces.{asked}
+use Rattle.esa_spec.specs.declared.event.Event.{Event}
+use Rattle.esa_spec.specs.declared.event.Event.TheVariants.{Write}
+use Rattle.esa_floor.specs.Parts.{Parts}
+use Rattle.esa_floor.specs.Standing.{attempt_begun, turns_made}
+use Rattle.esa_floor.specs.Workers.{IsInRound}
+use Rattle.esa_floor.specs.Working.{Working}
+use Rattle.esa_floor.proofs.Acting.{next_exchanges, next_reads, next_writes}
+use Rattle.esa_floor.proofs.Rounding.{exchange_round, read_round, write_round}
+use Rattle.esa_floor.proofs.floor.Floor.go_on.Goals as goal
+
+pub returns-then-phase-eq1-clause-round : goal.returns-then-phase-eq1-clause-round
+returns-then-phase-eq1-clause-round g c = λ runs.
+    let f = c.args.self.now in
+    let w = c.args.worker.now in
+    subst (λ (w : Working _). IsInRound f.plan.b (turns_made f ++ c.args.worker.now.number ∷ []) w) (sym (c.read.ensures.worker runs))
+    (read_round f.plan.b (turns_made f) w c.requires.round _ (sym c.phase-phase.ensures ∙ c.if-phase-eq1.true))
+
+pub returns-then-phase-eq2-clause-round : goal.returns-then-phase-eq2-clause-round
+returns-then-phase-eq2-clause-round g c = λ runs.
+    let f = c.args.self.now in
+    let w = c.args.worker.now in
+    subst (λ (w : Working _). IsInRound f.plan.b (turns_made f ++ c.args.worker.now.number ∷ []) w) (sym (c.exchange.ensures.worker runs))
+    (exchange_round f.plan.b (turns_made f) w c.requires.round _ (sym c.phase-phase.ensures ∙ c.if-phase-eq2.true) c.requires.bucket)
+
+pub returns-clause-round : goal.returns-clause-round
+returns-clause-round g c = λ runs.
+    let f = c.args.self.now in
+    let w = c.args.worker.now in
+    let is = c.phase-phase.ensures in
+    let first = c.if-phase-eq1.false in
+    let second = c.if-phase-eq2.false in
+    let later = c.requires.later in
+    let least : 3 ≤ w.phase = omega (arith, is, first, second, later) in
+    subst (λ (w : Working _). IsInRound f.plan.b (turns_made f ++ c.args.worker.now.number ∷ []) w) (sym (c.write.ensures.worker runs))
+    (write_round f.plan.b (turns_made f) w c.requires.round least (c.requires.blocks least c.requires.bucket) (ap (λ (p : Sizes). p.b) c.requires.plan))
+
+pub returns-then-phase-eq1-clause-access : goal.returns-then-phase-eq1-clause-access
+returns-then-phase-eq1-clause-access g c =
+    let f = c.args.self.now in
+    let w = c.args.worker.now in
+    let first = c.requires.phase ∙ sym c.phase-phase.ensures ∙ c.if-phase-eq1.true in
+    c.read.ensures.access
+    ∙ ap (λ (e : Event). f.recorder.trace ++ option_to_list (asked f.plan (attempt_begun f) e))
+    (sym (next_reads f.plan.b (turns_made f) w.number w.bucket c.requires.held c.requires.bucket first))
+
+pub returns-then-phase-eq2-clause-access : goal.returns-then-phase-eq2-clause-access
+returns-then-phase-eq2-clause-access g c =
+    let f = c.args.self.now in
+    let w = c.args.worker.now in
+    let second = c.requires.phase ∙ sym c.phase-phase.ensures ∙ c.if-phase-eq2.true in
+    ap (λ (x : Parts _). x.recorder.trace) c.exchange.ensures.floor ∙ sym (append-nil f.recorder.trace)
+    ∙ ap (λ (e : Event). f.recorder.trace ++ option_to_list (asked f.plan (attempt_begun f) e))
+    (sym (next_exchanges f.plan.b (turns_made f) w.number w.bucket c.requires.held c.requires.bucket second))
+
+pub returns-clause-access : goal.returns-clause-access
+returns-clause-access g c =
+    let f = c.args.self.now in
+    let w = c.args.worker.now in
+    let is = c.phase-phase.ensures in
+    let first = c.if-phase-eq1.false in
+    let second = c.if-phase-eq2.false in
+    let later = c.requires.later in
+    let phase = c.requires.phase in
+    c.write.ensures.access
+    ∙ ap (λ (e : Event). f.recorder.trace ++ option_to_list (asked f.plan (attempt_begun f) e))
+    (sym (next_writes f.plan.b (turns_made f) w.number w.bucket c.requires.held c.requires.bucket (omega (arith, phase, is, first, second, later))
+    ∙ ap (λ (x : ℕ). Write w.bucket (x - 3)) phase))
