@@ -1,0 +1,13 @@
+//! The drain and the compression of an attempt, over the blocks of the external memory.
+//!
+//! An import reads the chunks and the tail of a target, each block into its place of one buffer, and moves the items into
+//! the window of esa_compress, in the order of the target. An output bucket is taken from the window, sealed and written.
+//! A tail is what is left in the stash for a target. This crate stands on the sealed blocks, esa_vault, and on the window.
+//! Only `make` takes memory.
+#![tactic(auto)]
+
+mod fetch;
+mod store;
+
+pub use fetch::fetch_items;
+pub use store::store_items;
