@@ -11,11 +11,11 @@ ghost use Rattle.esa_command.specs.Stand.{stand};
 ghost use Rattle.esa_encoding.specs.Encode.{sealing_keys, encoded_by, whole_job, reports_file, encoded_text, encode_work, encode_steps};
 ghost use Rattle.esa_encoding.specs.Encoded.{sealed_as, sealed_work};
 
+use esa_bytes::line_count;
 use esa_command::{form_of, read_file, settle_one, take_job, take_keys, write_bytes};
 use esa_encoder::EncodeRefused;
 use esa_envelope::{Keys, Label, record_keys};
 use esa_job::{Command, Job, JobField, KeyRing};
-use esa_line::line_count;
 use esa_outside::{Cabinet, Printer};
 use esa_refusal::{End, Line, Refusal, Sink, Source, Status, Stop, add_numbered};
 use std::alloc::Global;
