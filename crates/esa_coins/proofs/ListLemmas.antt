@@ -1,5 +1,5 @@
 -- The values of a JSON list.
-use Rattle.std.proofs.Common.{◌≡◌, ℕ, ◌==◌, codes, is_some, List, length, map, Option, Some, Result, Ok, Err, ap, sym, ◌∙◌}
+use Rattle.std.proofs.Common.{◌≡◌, ℕ, ◌==◌, codes, is_some, List, length, map, Option, Some, Ok, Err, ap, sym, ◌∙◌}
 use Rattle.std.specs.List.{list_all}
 use Rattle.std.specs.Option.{ok_or}
 use Rattle.std.proofs.lemmas.Bool.{eq-eqb, ne_eqb}

@@ -1,5 +1,5 @@
 -- What a coins file says, or the first place that it is refused for.
-use Rattle.std.specs.Prelude.{◌≡◌, ◌⊎◌, ℕ, ◌+◌, ◌*◌, ◌==◌, ◌&&◌, Bool, nat_lt, is_some, codes, List, [], ◌∷◌, length, take, drop, slice_index_or, Option, Some, ok_or, option_and_then, option_map, Result, Ok, Err, MatchResult, if◌then◌else◌}
+use Rattle.std.specs.Prelude.{◌≡◌, ◌⊎◌, ℕ, ◌+◌, ◌*◌, ◌==◌, ◌&&◌, Bool, nat_lt, is_some, codes, List, [], ◌∷◌, length, take, drop, slice_index_or, Option, Some, ok_or, option_and_then, Result, Ok, Err, MatchResult, if◌then◌else◌}
 use Rattle.std.specs.List.{list_all}
 use Rattle.serde_json.specs.Data.{Data}
 use Rattle.serde_json.specs.Find.{get, as_object}

@@ -1,6 +1,6 @@
 //! No nonce is used twice, and no block is written twice in an attempt.
 
-ghost use Rattle.std.specs.Prelude.{◌≡◌, ℕ, ◌<◌, ◌≤◌, ◌==◌, List, count_by};
+ghost use Rattle.std.specs.Prelude.{ℕ, ◌<◌, ◌≤◌, ◌==◌, List, count_by};
 ghost use Rattle.esa_params.specs.Sizes.{Sizes, ArePlanned};
 ghost use Rattle.esa_params.specs.Slots.{writes_number};
 ghost use Rattle.esa_spec.specs.Draws.{Draw};

@@ -1,7 +1,7 @@
 //! How a queue goes on when one more batch comes in.
 
 ghost use Rattle.std.specs.Prelude.{◌≡◌, ℕ, suc, ◌+◌, ◌-◌, ◌<◌, ◌≤◌, List, [], ◌∷◌, ◌++◌, length, take, drop, map};
-ghost use Rattle.esa_spec.specs.Queue.{joined, arrived, waiting, departed, leaving, queue};
+ghost use Rattle.esa_spec.specs.Queue.{waiting, departed, leaving, queue};
 
 /// One batch more: up to c of those that waited and those that came in leave, the first ones first, and the others wait.
 pub fn one_batch_more<T>()

@@ -1,6 +1,6 @@
 //! The items of a block.
 
-ghost use Rattle.std.specs.Prelude.{◌≡◌, ◌+◌, ◌-◌, ◌≤◌, length, drop, Some, IsTrue, IfSome};
+ghost use Rattle.std.specs.Prelude.{◌≡◌, ◌-◌, ◌≤◌, length, drop, Some, IsTrue, IfSome};
 ghost use Rattle.esa_report.specs.Zero.{is_zero};
 ghost use Rattle.esa_report.specs.Item.{IsItemLength, dummy_item, full_body, is_well_formed, item_bytes, item_in, kind_held, malformed_item};
 

@@ -1,6 +1,6 @@
 //! Small shuffles, worked out by hand, as the definitions compute them.
 
-ghost use Rattle.std.specs.Prelude.{◌≡◌, ℕ, ◌+◌, ◌^◌, List, [], ◌∷◌, length, replicate, take, drop, slice_range, map};
+ghost use Rattle.std.specs.Prelude.{◌≡◌, ◌+◌, ◌^◌, [], ◌∷◌, length, replicate, take, slice_range, map};
 ghost use Rattle.esa_params.specs.Sizes.{size, below};
 ghost use Rattle.esa_params.specs.Slots.{length_at};
 ghost use Rattle.esa_spec.specs.Cases.{base, base_targets, base_trace, no_stash, draw_of, ordered_draw, two_draws, completed_from_none, nonce};

@@ -1,6 +1,6 @@
 //! The arena: a fixed number of cells, each free or in one chain.
 
-ghost use Rattle.std.specs.Prelude.{◌≡◌, ◌<◌, ◌↔◌, [], length, replicate, IfOk, IsTrue, IsNone, option_map, slice_get};
+ghost use Rattle.std.specs.Prelude.{◌≡◌, ◌<◌, ◌↔◌, [], length, IfOk, IsTrue, IsNone, option_map, slice_get};
 ghost use Rattle.std.specs.Bool.{OnTrue, OnFalse};
 ghost use Rattle.esa_stash.specs.Arena.{IsShared, chain_at, empty_arena, pushed, popped};
 

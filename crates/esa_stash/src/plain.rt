@@ -1,6 +1,6 @@
 //! A stash that is a plain list of pairs of target and item, and a table of exchanges that runs it beside the arena.
 
-ghost use Rattle.std.specs.Prelude.{◌≡◌, ◌*◌, ◌^◌, ◌<◌, ◌≤◌, All, length, vec_len, IfOk};
+ghost use Rattle.std.specs.Prelude.{◌≡◌, ◌*◌, ◌^◌, ◌<◌, All, length, IfOk};
 ghost use Rattle.esa_stash.specs.Stash.{contents};
 
 use crate::Stash;

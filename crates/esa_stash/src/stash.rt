@@ -1,6 +1,6 @@
 //! The stash: a queue of items for each target, in one arena.
 
-ghost use Rattle.std.specs.Prelude.{ℕ, ◌≡◌, ◌≢◌, ◌*◌, ◌≤◌, ◌<◌, ◌↔◌, List, [], ◌∷◌, ◌++◌, All, length, map, take, slice_set, IfOk, IfErr, IsOk, OnOk, OnErr};
+ghost use Rattle.std.specs.Prelude.{ℕ, ◌≡◌, ◌≢◌, ◌*◌, ◌≤◌, ◌<◌, ◌↔◌, List, [], ◌∷◌, ◌++◌, All, length, IfOk, IfErr, IsOk, OnOk, OnErr};
 ghost use Rattle.esa_stash.specs.Stash.{Handed, contents, empty_stash, without, queue_at, padded, chunks as chunks_of, counts as counts_of, exchanged, padded_chunk, total};
 ghost use Rattle.esa_stash.specs.Dealing.{chunk_at};
 ghost use Rattle.esa_stash.specs.Since.{IsSince, HasTail, tail, tail_length, last_chunks, last_counts, total_backlog};

@@ -1,6 +1,6 @@
 //! How many items an exchange would leave, by lengths alone.
 
-ghost use Rattle.std.specs.Prelude.{◌≡◌, ◌≤◌, ◌<◌, ◌^◌, All, map, sum_by, length};
+ghost use Rattle.std.specs.Prelude.{◌≡◌, ◌<◌, ◌^◌, All, map, sum_by, length};
 ghost use Rattle.esa_stash.specs.Sizes.{below};
 ghost use Rattle.esa_stash.specs.Dealing.{arrivals, left_after};
 

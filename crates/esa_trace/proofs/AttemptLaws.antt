@@ -1,5 +1,5 @@
 -- Each access of a run is of one of its attempts.
-use Rattle.std.proofs.Common.{◌≡◌, ℕ, zero, suc, ◌+◌, ◌<◌, ◌≤◌, Bool, true, false, cond, List, [], ◌∷◌, ◌++◌, length, map, arith}
+use Rattle.std.proofs.Common.{ℕ, zero, suc, ◌+◌, ◌<◌, ◌≤◌, Bool, true, false, cond, List, [], ◌∷◌, ◌++◌, length, map, arith}
 use Rattle.std.specs.List.{filter_map}
 use Rattle.std.specs.Prelude.{Option, Some, None, unwrap_or, All}
 use Rattle.std.proofs.lemmas.List.Elements.{All-nil, All-append, All-map}
@@ -9,7 +9,7 @@ use Rattle.esa_params.specs.declared.slot.Region.TheVariants.{Tail, Output}
 use Rattle.esa_params.specs.declared.slot.Op.TheVariants.{Read as Reads, Write as Writes}
 use Rattle.esa_params.specs.declared.slot.Access.{Access}
 use Rattle.esa_spec.specs.Draws.{Draw}
-use Rattle.esa_spec.specs.Traces.{asked, through, made, spread, written_input, load, read_chunk, import_reads, step_accesses, walk, compression, written_tail, drain, rest, attempt_trace, is_failed, attempts, shuffle_trace, read_output, scan, scans, good_attempt, trace}
+use Rattle.esa_spec.specs.Traces.{asked, made, spread, written_input, load, read_chunk, step_accesses, walk, compression, written_tail, drain, rest, attempt_trace, is_failed, attempts, shuffle_trace, read_output, scan, scans, good_attempt, trace}
 use Rattle.esa_spec.specs.Turns.{events, order}
 use Rattle.esa_spec.specs.Verdicts.{failing, is_finished, left, Step, Import, Put, steps, step_verdict, is_good, verdict}
 use Rattle.esa_spec.specs.declared.event.Event.{Event}

@@ -1,6 +1,6 @@
 //! Sealing a block for its slot, and opening it.
 
-ghost use Rattle.std.specs.Prelude.{◌≡◌, ◌+◌, length, unwrap_or};
+ghost use Rattle.std.specs.Prelude.{◌≡◌, length, unwrap_or};
 ghost use Rattle.esa_params.specs.Slots.{IsPlanned, block_length, nonce_of, plain_length};
 ghost use Rattle.esa_params.specs.Sizes.{ArePlanned};
 ghost use Rattle.esa_envelope.specs.Envelope.{nonce_in};

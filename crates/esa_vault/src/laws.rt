@@ -2,7 +2,7 @@
 //!
 //! The functions do nothing when they run. They are there so that each law is proved where a contract names it.
 
-ghost use Rattle.std.specs.Prelude.{◌≡◌, ◌≢◌, ℕ, ◌+◌, ◌*◌, ◌/◌, ◌^◌, ◌<◌, ◌≤◌, true, false, Some, None, Option, Result, OnOk, OnErr, All, Contains, is_some, List, [], ◌∷◌, ◌++◌, length, replicate, slice_get, slice_set, if◌then◌else◌};
+ghost use Rattle.std.specs.Prelude.{◌≡◌, ◌≢◌, ℕ, ◌+◌, ◌*◌, ◌/◌, ◌^◌, ◌<◌, ◌≤◌, true, false, Some, None, Option, Result, OnOk, All, Contains, is_some, List, [], ◌∷◌, ◌++◌, length, replicate, slice_get, slice_set, if◌then◌else◌};
 ghost use Rattle.esa_envelope.specs.Envelope.{nonce_in, sealed_as};
 ghost use Rattle.esa_envelope.specs.declared.keys.Keys.{Keys};
 ghost use Rattle.esa_envelope.specs.declared.label.Label.{Label};

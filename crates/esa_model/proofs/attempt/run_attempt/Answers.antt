@@ -15,7 +15,7 @@ use Rattle.esa_model.proofs.AttemptLemmas.{trace-written, verdict-written, excha
 use Rattle.esa_model.proofs.LineLemmas.{lines-few}
 use Rattle.esa_model.proofs.SpreadLemmas.{with-more}
 use Rattle.esa_model.proofs.attempt.run_attempt.Goals as goal
-use Rattle.esa_model.proofs.attempt.run_attempt.Goals.{In-None, After-finish}
+use Rattle.esa_model.proofs.attempt.run_attempt.Goals.{In-None}
 use Rattle.esa_model.proofs.attempt.run_attempt.Given.{Over}
 
 -- the turns are made, and all chunks are written
