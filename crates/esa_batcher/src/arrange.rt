@@ -1,6 +1,6 @@
 //! Sorting records by short keys, so that each record is moved once.
 
-ghost use Rattle.std.specs.Prelude.{◌≡◌, ◌<◌, ◌≤◌, ◌^◌, All, length, vec_capacity, vec_len};
+ghost use Rattle.std.specs.Prelude.{◌≡◌, ◌<◌, ◌≤◌, ◌^◌, length, vec_capacity, vec_len};
 ghost use Rattle.std.specs.List.Sorted.{IsPermutation, IsSorted};
 ghost use Rattle.esa_batcher.specs.Rising.{by_bytes};
 ghost use Rattle.esa_batcher.specs.Arranging.{ArePlaces};

@@ -2,13 +2,11 @@
 
 ghost use Rattle.std.specs.Prelude.{◌≡◌, ◌⊎◌, ◌↔◌, ◌≤◌, ◌<◌, ◌^◌, ℕ, List, [], Ok, Err, IsErr, IfOk, IfErr, OnOk, OnErr, MatchResult, length, vec_capacity};
 ghost use Rattle.std.specs.List.Sorted.{IsPermutation};
-ghost use Rattle.esa_lists.specs.Ordered.{ordered};
 ghost use Rattle.esa_batcher.specs.declared.refused.AddRefused.TheVariants as add;
 ghost use Rattle.esa_batcher.specs.declared.refused.BatchRefused.TheVariants as batch;
 ghost use Rattle.esa_batcher.specs.Adding.{Gathered, text_in, added_in};
 ghost use Rattle.esa_batcher.specs.Batched.{IsBatch};
 ghost use Rattle.esa_batcher.specs.Finishing.{epoch_of, batch_of};
-ghost use Rattle.esa_batcher.specs.Rising.{by_bytes};
 
 use crate::arrange::Key;
 use crate::batch::Batch;

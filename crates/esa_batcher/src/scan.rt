@@ -1,6 +1,6 @@
 //! Checking a batch file through a buffer of fixed size.
 
-ghost use Rattle.std.specs.Prelude.{◌≡◌, ◌⊎◌, ◌*◌, ◌+◌, ◌≤◌, ◌<◌, ℕ, List, Some, None, Option, Ok, Err, IfOk, IfErr, MatchResult, length, min};
+ghost use Rattle.std.specs.Prelude.{◌≡◌, ◌⊎◌, ◌*◌, ◌+◌, ◌≤◌, ◌<◌, ℕ, List, Some, None, Option, Ok, Err, IfOk, length, min};
 ghost use Rattle.std.specs.FinMap as map;
 ghost use Rattle.esa_lists.specs.Files.{Files};
 ghost use Rattle.esa_params.specs.Form.{envelope_length};

@@ -1,6 +1,6 @@
 //! The window: a queue of items that runs ahead of the output.
 
-ghost use Rattle.std.specs.Prelude.{◌≡◌, ℕ, ◌+◌, ◌≤◌, ◌<◌, ◌↔◌, List, [], ◌++◌, All, IsPermutation, IsTrue, length, take, drop, Some, slice_get, option_to_list, IfOk, IfErr, IsOk, OnOk, OnErr};
+ghost use Rattle.std.specs.Prelude.{◌≡◌, ◌+◌, ◌≤◌, ◌<◌, ◌↔◌, [], ◌++◌, All, IsPermutation, IsTrue, length, take, drop, Some, slice_get, option_to_list, IfOk, IfErr, IsOk, OnOk, OnErr};
 ghost use Rattle.circular_buffer.specs.Buffer.{buffer};
 ghost use Rattle.esa_params.specs.Sizes.{below};
 ghost use Rattle.esa_compress.specs.Held.{is_held, kept, held_in, held_count};

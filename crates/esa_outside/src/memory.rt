@@ -1,17 +1,16 @@
 //! A cabinet whose files lie in memory.
 
-ghost use Rattle.std.specs.Prelude.{◌≡◌, ◌≢◌, ◌+◌, ◌++◌, ◌∷◌, ◌⊎◌, ◌↔◌, Some, List, ℕ, [], length, IfSome, IfNone, IfOk, IsErr, OnOk, OnErr, All};
+ghost use Rattle.std.specs.Prelude.{◌≡◌, ◌≢◌, ◌+◌, ◌++◌, ◌∷◌, ◌↔◌, Some, List, ℕ, [], length, IfSome, IfNone, IfOk, IsErr, OnOk, OnErr, All};
 ghost use Rattle.std.specs.Option.{option_copied};
 ghost use Rattle.std.specs.String.{string_bytes};
 ghost use Rattle.std.specs.FinMap as map;
 ghost use Rattle.esa_outside.specs.Memory.{IsFirstOf, files_of};
-ghost use Rattle.std.specs.Result.{result_ok};
 ghost use Rattle.std.specs.Option.{option_map};
 ghost use Rattle.esa_outside.specs.Files.{Files};
 ghost use Rattle.esa_outside.specs.Calls.{IsListed, called, faulted, starved};
 ghost use Rattle.esa_outside.specs.Cause.{HasCause};
 ghost use Rattle.esa_outside.specs.Heard.{length_of, part_of, started as file_started, added as bytes_added, after};
-ghost use Rattle.esa_outside.specs.Told.{IsPart, EndsBefore, Lacks, HoldsFront};
+ghost use Rattle.esa_outside.specs.Told.{IsPart, EndsBefore, HoldsFront};
 
 use crate::log::{Log, Note};
 use crate::schedule::Schedule;

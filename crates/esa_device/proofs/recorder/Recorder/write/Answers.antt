@@ -1,5 +1,5 @@
 -- The access is one more of the log, and a device that tells has what was written in its slot.
-use Rattle.std.proofs.Common.{rules, ◌≡◌, ◌++◌, [], ◌∷◌, ℕ, ◌<◌, List, Option, Some, length, sym, ap, ◌∙◌, subst, map}
+use Rattle.std.proofs.Common.{rules, ◌≡◌, ℕ, ◌<◌, List, Option, Some, length, sym, ap, ◌∙◌, subst, map}
 use Rattle.std.specs.Prelude.{OnOk, OnErr, slice_set}
 use Rattle.esa_params.specs.Sizes.{Sizes}
 use Rattle.esa_params.specs.declared.slot.Op.TheVariants.{Write}
