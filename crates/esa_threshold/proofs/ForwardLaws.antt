@@ -83,3 +83,12 @@ answer-accepts bytes form epoch envelopes can is (Ok forwarded) answer =
 answer-accepts bytes form epoch envelopes can is (Err refused) answer =
     let accepted : forward_in bytes ≡ Ok (forwarded_as form epoch envelopes) = ap forward_in is ∙ forward_in-accepts form epoch envelopes can in
     elim answer [ inl want ↦ want | inr other ↦ cc ]
+
+-- the same where the answer is for certain
+abbrev pub IsSure : List ℕ → Result Forwarded ForwardRefused → Type 0
+IsSure bytes result = MatchResult result (λ forwarded. forward_in bytes ≡ Ok forwarded) (λ refused. forward_in bytes ≡ Err refused)
+
+pub sure-accepts : (bytes : List ℕ) (form : Form) (epoch : ℕ) (envelopes : List (List ℕ)) → CanForward form epoch envelopes → bytes ≡ forward_bytes form epoch envelopes → (result : Result Forwarded ForwardRefused) → IsSure bytes result
+    → result ≡ Ok (forwarded_as form epoch envelopes)
+sure-accepts bytes form epoch envelopes can is (Ok forwarded) answer = sym answer ∙ ap forward_in is ∙ forward_in-accepts form epoch envelopes can
+sure-accepts bytes form epoch envelopes can is (Err refused) answer = sym answer ∙ ap forward_in is ∙ forward_in-accepts form epoch envelopes can

@@ -1,39 +1,41 @@
 //! The envelopes of a forward file, and what the file says of them.
 
-ghost use Rattle.std.specs.Prelude.{◌≡◌, IfOk};
+ghost use Rattle.std.specs.Prelude.{◌≡◌, ◌≤◌, length, drop};
 
 use esa_params::Form;
-use std::alloc::{AllocError, Global};
 use std::marker::Model;
 
-/// Envelopes of one length, joined.
+/// Envelopes of one length, joined, in the bytes of their file.
 #[derive(Drop)]
 pub struct Envelopes {
-    bytes: Vec<u8>,
+    file: Vec<u8>,
+    start: usize,
 }
 
 impl Model for Envelopes {
-    ghost use Rattle.std.specs.Prelude.{List, ℕ};
+    ghost use Rattle.std.specs.Prelude.{List, ℕ, ◌≤◌, length, drop};
 
     ghost Value = { List ℕ };
 
-    ghost view = { λ envelopes. envelopes.bytes.items };
+    ghost view = { λ envelopes. drop envelopes.start envelopes.file.items };
+
+    ghost invariant = { λ envelopes. envelopes.start ≤ length envelopes.file.items };
 }
 
 impl Envelopes {
-    /// A copy of these envelopes.
-    pub(crate) fn copied(alloc: Global, bytes: &[u8]) -> Result<Self, AllocError>
-        ensures { IfOk result (λ envelopes. envelopes ≡ bytes.now) }
+    /// The envelopes that stand in a file from a place on.
+    pub(crate) fn behind(file: Vec<u8>, start: usize) -> Self
+        requires { start ≤ length file.items }
+        ensures { result ≡ drop start file.items }
     {
-        let bytes = Vec::from_slice(alloc, bytes)?;
-        Ok(Envelopes { bytes })
+        Envelopes { file, start }
     }
 
     /// The envelopes, one after another.
     pub fn bytes(&self) -> &[u8]
         ensures { result.now ≡ self.now }
     {
-        &self.bytes
+        &self.file[self.start..]
     }
 }
 

@@ -23,17 +23,37 @@ fn tested_header(bytes: &[u8]) -> Result<Header, ForwardRefused>
 }
 
 /// What a forward file says, or the first test that it fails.
-fn tested_forward(alloc: Global, bytes: &[u8]) -> Result<Forwarded, ForwardRefused>
-    ensures { MatchResult result (λ forwarded. forward_in bytes.now ≡ Ok forwarded)
-        (λ refused. (refused ≡ OutOfMemory) ⊎ (forward_in bytes.now ≡ Err refused)) }
+fn tested_forward(bytes: Vec<u8>) -> Result<Forwarded, ForwardRefused>
+    ensures { MatchResult result (λ forwarded. forward_in bytes.items ≡ Ok forwarded)
+        (λ refused. forward_in bytes.items ≡ Err refused) }
 {
-    let header = tested_header(bytes)?;
-    let envelopes = Envelopes::copied(alloc, &bytes[header.length()..])?;
+    let header = tested_header(&bytes)?;
     Ok(Forwarded {
         form: header.form,
         epoch: header.epoch,
-        envelopes,
+        envelopes: Envelopes::behind(bytes, header.length()),
     })
+}
+
+/// Reads a forward file, and keeps the file's own bytes, so that it takes no memory. The refusal is the first test that
+/// the file fails.
+pub fn forward_of(bytes: Vec<u8>) -> Result<Forwarded, ForwardRefused>
+    ensures first_refusal { MatchResult result (λ forwarded. forward_in bytes.items ≡ Ok forwarded)
+        (λ refused. forward_in bytes.items ≡ Err refused) }
+
+    // The file of each list is accepted.
+    ensures accepts { (form : Form) (epoch : ℕ) (envelopes : List (List ℕ)) → CanForward form epoch envelopes
+        → bytes.items ≡ forward_bytes form epoch envelopes → result ≡ Ok (forwarded_as form epoch envelopes) }
+{
+    tested_forward(bytes)
+}
+
+/// What a copy of a forward file says, or the first test that the file fails.
+fn copied_forward(alloc: Global, bytes: &[u8]) -> Result<Forwarded, ForwardRefused>
+    ensures { MatchResult result (λ forwarded. forward_in bytes.now ≡ Ok forwarded)
+        (λ refused. (refused ≡ OutOfMemory) ⊎ (forward_in bytes.now ≡ Err refused)) }
+{
+    tested_forward(Vec::from_slice(alloc, bytes)?)
 }
 
 /// Reads a forward file. The refusal is the first test that it fails.
@@ -49,7 +69,7 @@ pub fn read_forward(alloc: Global, bytes: &[u8]) -> Result<Forwarded, ForwardRef
         → bytes.now ≡ forward_bytes form epoch envelopes
         → MatchResult result (λ forwarded. forwarded ≡ forwarded_as form epoch envelopes) (λ refused. refused ≡ OutOfMemory) }
 {
-    tested_forward(alloc, bytes)
+    copied_forward(alloc, bytes)
 }
 
 /// Writes the header of a forward file to the front of `out` and answers its length, 11 in form One and

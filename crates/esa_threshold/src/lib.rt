@@ -9,5 +9,5 @@ mod forward;
 mod refused;
 
 pub use envelopes::{Envelopes, Forwarded};
-pub use forward::{forward_header, read_forward};
+pub use forward::{forward_header, forward_of, read_forward};
 pub use refused::ForwardRefused;
