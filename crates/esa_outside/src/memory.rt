@@ -68,6 +68,14 @@ impl MemCabinet {
         find(&self.files, name)
     }
 
+    /// All files, each with its name. Of two of one name the first counts. This is no call of the cabinet, and is not
+    /// counted.
+    pub fn files(&self) -> &[(String, Vec<u8>)]
+        ensures { files_of result.now ≡ self.now.files }
+    {
+        &self.files
+    }
+
     /// Puts a file in the place of what its name held. This is no call of the cabinet, and is not counted.
     pub fn put(&mut self, name: &str, bytes: &[u8]) -> Result<(), AllocError>
         ensures ok { OnOk result (self.new ≡ record self.old { files = map.insert self.old.files name.now bytes.now }) }
