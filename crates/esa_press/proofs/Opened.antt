@@ -67,7 +67,8 @@ spelled_or : (size : ℕ) (o : Option Item) → ((item : Item) → o ≡ Some it
 spelled_or size None each = dummy_spelled size
 spelled_or size (Some item) each = each item refl
 
-abbrev weight : Item → ℕ
+-- an item counts once, where it is no dummy
+abbrev pub weight : Item → ℕ
 weight item = cond (is_held item) 1 0
 
 -- where the first ones are no dummies and the rest are, so many are none

@@ -1,7 +1,7 @@
 -- The items of a block: records in front, and dummies behind them.
-use Rattle.std.specs.Prelude.{ℕ, ◌≤◌, List, All, length, unwrap_or}
+use Rattle.std.specs.Prelude.{ℕ, ◌≤◌, List, ◌++◌, All, flat_map, length, unwrap_or}
 use Rattle.esa_envelope.specs.declared.keys.Keys.{Keys}
-use Rattle.esa_params.specs.Sizes.{Sizes}
+use Rattle.esa_params.specs.Sizes.{Sizes, below}
 use Rattle.esa_params.specs.Slots.{item_length}
 use Rattle.esa_params.specs.declared.slot.Slot.{Slot}
 use Rattle.esa_report.specs.declared.item.Item.{Item}
@@ -24,3 +24,8 @@ pub record AreRecords (size n : ℕ) (records : List Item) : Type 0 where
 -- the block of n items of records for a slot in an attempt
 abbrev pub sealed_records : Sizes → Keys → Slot → ℕ → ℕ → List Item → List ℕ
 sealed_records p keys slot attempt n records = sealed_block p keys slot attempt (text_of (item_length p.form) (padded n records))
+
+-- the items of an import, where the chunks and the tail have these records: chunk after chunk and then the tail, each with
+-- dummies behind its records
+abbrev pub imported_items : Sizes → (ℕ → List Item) → List Item → List Item
+imported_items p chunks tail = flat_map (λ j. padded p.c (chunks j)) (below p.b) ++ padded p.k tail

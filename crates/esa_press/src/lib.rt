@@ -7,6 +7,8 @@
 #![tactic(auto)]
 
 mod fetch;
+mod import;
+mod room;
 mod store;
 
 pub use fetch::fetch_items;
