@@ -1,10 +1,9 @@
-use Rattle.std.proofs.Common.{◌≡◌, ◌⊎◌, Err, ap, sym, subst, ◌∙◌, arith}
+use Rattle.std.proofs.Common.{◌≡◌, inr, ap, sym, arith}
 use Rattle.std.specs.Prelude.{unwrap_or, []}
 use Rattle.std.proofs.lemmas.Result.{err_from_is_err_and}
 use Rattle.esa_job.specs.Seen.{request_of}
 use Rattle.esa_job.specs.declared.field.JobField.TheVariants as field
 use Rattle.esa_threshold.specs.Forward.{forward_in}
-use Rattle.esa_threshold.specs.declared.refused.ForwardRefused.TheVariants.{OutOfMemory}
 use Rattle.esa_refusal.specs.declared.refusal.Refusal.TheVariants as refusal
 use Rattle.esa_analysing.specs.Analyse.{forward_file}
 use Rattle.esa_refusal.specs.declared.source.Source.TheVariants as source
@@ -24,16 +23,16 @@ returns-in_err-bytes-clause-judged g c =
     rw (p.1, p.2) (judged_stop 4 4 5 5 (λ bytes. bytes.items) (λ forwarded. forwarded) (file c.args.command source.Input (name_of (request_of c.args.job.now) field.Input)) (λ _ text. read_step refusal.Forward (forward_in text))
     (stands c.args.cabinet.now) (stands c.read_file.new.cabinet) c.in_err-bytes.field-0.0 (omega arith) (judged_steps 4 5 (λ bytes. bytes.items) (file c.args.command source.Input c.input.result.now) (file c.args.command source.Input (name_of (request_of c.args.job.now) field.Input)) (stands c.args.cabinet.now) (stands c.read_file.new.cabinet) _ (ap (file c.args.command source.Input) (sym named)) c.in_err-bytes.ensures))
 
-pub returns-in_err-read_forward-clause-judged : goal.returns-in_err-read_forward-clause-judged
+pub returns-in_err-forward_of-clause-judged : goal.returns-in_err-forward_of-clause-judged
 unfolding forward_file
-returns-in_err-read_forward-clause-judged g c =
-    let p = err_from_is_err_and c.from_residual-in_err-read_forward.result c.from_residual-in_err-read_forward.ensures.1 in
+returns-in_err-forward_of-clause-judged g c =
+    let p = err_from_is_err_and c.from_residual-in_err-forward_of.result c.from_residual-in_err-forward_of.ensures.1 in
     let named : name_of (request_of c.args.job.now) field.Input ≡ c.input.result.now = ap (λ name. unwrap_or name []) c.input.ensures in
     let stands = stand g.K.Cabinet.told g.K.Cabinet.faults g.K.Cabinet.heard in
     rw (p.1, p.2) (judged_not_made 4 5 (λ bytes. bytes.items) (λ forwarded. forwarded) (file c.args.command source.Input (name_of (request_of c.args.job.now) field.Input)) (λ text. read_step refusal.Forward (forward_in text)) c.in_ok-bytes.bytes
     (stands c.args.cabinet.now) (stands c.read_file.new.cabinet)
-    (judged_steps 4 5 (λ bytes. bytes.items) (file c.args.command source.Input c.input.result.now) (file c.args.command source.Input (name_of (request_of c.args.job.now) field.Input)) (stands c.args.cabinet.now) (stands c.read_file.new.cabinet) _ (ap (file c.args.command source.Input) (sym named)) c.in_ok-bytes.ensures) (refusal.Forward c.in_err-read_forward.field-0.0) _ (forward_stop c.in_err-read_forward.field-0.0 (forward_in c.in_ok-bytes.bytes.items)
-    (subst (λ bytes. (c.in_err-read_forward.field-0.0 ≡ OutOfMemory) ⊎ (forward_in bytes ≡ Err c.in_err-read_forward.field-0.0)) c.deref.ensures.value c.in_err-read_forward.ensures.first_refusal)))
+    (judged_steps 4 5 (λ bytes. bytes.items) (file c.args.command source.Input c.input.result.now) (file c.args.command source.Input (name_of (request_of c.args.job.now) field.Input)) (stands c.args.cabinet.now) (stands c.read_file.new.cabinet) _ (ap (file c.args.command source.Input) (sym named)) c.in_ok-bytes.ensures) (refusal.Forward c.in_err-forward_of.field-0.0) _ (forward_stop c.in_err-forward_of.field-0.0 (forward_in c.in_ok-bytes.bytes.items)
+    (inr c.in_err-forward_of.ensures.first_refusal)))
 
 pub returns-clause-judged : goal.returns-clause-judged
 unfolding forward_file
@@ -42,4 +41,4 @@ returns-clause-judged g c =
     let stands = stand g.K.Cabinet.told g.K.Cabinet.faults g.K.Cabinet.heard in
     judged_made 4 5 (λ bytes. bytes.items) (λ forwarded. forwarded) (file c.args.command source.Input (name_of (request_of c.args.job.now) field.Input)) (λ text. read_step refusal.Forward (forward_in text)) c.in_ok-bytes.bytes
     (stands c.args.cabinet.now) (stands c.read_file.new.cabinet)
-    (judged_steps 4 5 (λ bytes. bytes.items) (file c.args.command source.Input c.input.result.now) (file c.args.command source.Input (name_of (request_of c.args.job.now) field.Input)) (stands c.args.cabinet.now) (stands c.read_file.new.cabinet) _ (ap (file c.args.command source.Input) (sym named)) c.in_ok-bytes.ensures) c.in_ok-read_forward.field-0 (ap (λ bytes. read_step refusal.Forward (forward_in bytes)) (sym c.deref.ensures.value) ∙ ap (read_step refusal.Forward) c.in_ok-read_forward.ensures.first_refusal)
+    (judged_steps 4 5 (λ bytes. bytes.items) (file c.args.command source.Input c.input.result.now) (file c.args.command source.Input (name_of (request_of c.args.job.now) field.Input)) (stands c.args.cabinet.now) (stands c.read_file.new.cabinet) _ (ap (file c.args.command source.Input) (sym named)) c.in_ok-bytes.ensures) c.in_ok-forward_of.field-0 (ap (read_step refusal.Forward) c.in_ok-forward_of.ensures.first_refusal)
