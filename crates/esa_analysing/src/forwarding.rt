@@ -10,7 +10,7 @@ use esa_command::read_file;
 use esa_job::{Command, Job, JobField};
 use esa_outside::Cabinet;
 use esa_refusal::{Source, Stop};
-use esa_threshold::{Forwarded, read_forward};
+use esa_threshold::{Forwarded, forward_of};
 use std::alloc::Global;
 
 /// Reads the forward file of a job.
@@ -26,5 +26,5 @@ pub fn take_forward<K: Cabinet>(
     ensures whole { IfOk result AreWhole }
 {
     let bytes = read_file(alloc, cabinet, command, Source::Input, job.input())?;
-    Ok(read_forward(alloc, &bytes)?)
+    Ok(forward_of(bytes)?)
 }

@@ -88,6 +88,10 @@ answer-accepts bytes form epoch envelopes can is (Err refused) answer =
 abbrev pub IsSure : List ℕ → Result Forwarded ForwardRefused → Type 0
 IsSure bytes result = MatchResult result (λ forwarded. forward_in bytes ≡ Ok forwarded) (λ refused. forward_in bytes ≡ Err refused)
 
+pub sure-spelled : (bytes : List ℕ) → ((forwarded : Forwarded) → forward_in bytes ≡ Ok forwarded → IsForwardFile forwarded bytes) → (result : Result Forwarded ForwardRefused) → IsSure bytes result → IfOk result (λ forwarded. IsForwardFile forwarded bytes)
+sure-spelled bytes spelled (Ok forwarded) answer = spelled forwarded answer
+sure-spelled bytes spelled (Err refused) answer = tt
+
 pub sure-accepts : (bytes : List ℕ) (form : Form) (epoch : ℕ) (envelopes : List (List ℕ)) → CanForward form epoch envelopes → bytes ≡ forward_bytes form epoch envelopes → (result : Result Forwarded ForwardRefused) → IsSure bytes result
     → result ≡ Ok (forwarded_as form epoch envelopes)
 sure-accepts bytes form epoch envelopes can is (Ok forwarded) answer = sym answer ∙ ap forward_in is ∙ forward_in-accepts form epoch envelopes can

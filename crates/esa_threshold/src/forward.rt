@@ -5,6 +5,7 @@ ghost use Rattle.esa_header.specs.Header.{header_length};
 ghost use Rattle.esa_threshold.specs.declared.refused.ForwardRefused.TheVariants.{OutOfMemory};
 ghost use Rattle.esa_threshold.specs.Forward.{forward_front, forward_bytes, CanForward, forwarded_as, IsForwardFile, forward_header_in, forward_in};
 ghost use Rattle.esa_params.specs.declared.form.Form.{Form};
+ghost use Rattle.esa_threshold.specs.declared.envelopes.Forwarded.{Forwarded};
 
 use crate::{Envelopes, ForwardRefused, Forwarded};
 use esa_header::{FileKind, Header, put_header, read_header};
@@ -13,7 +14,8 @@ use std::alloc::Global;
 
 /// The header of a forward file, or the first test that the file fails.
 fn tested_header(bytes: &[u8]) -> Result<Header, ForwardRefused>
-    ensures { result ≡ forward_header_in bytes.now }
+    ensures header { result ≡ forward_header_in bytes.now }
+    ensures spelled { (forwarded : Forwarded) → forward_in bytes.now ≡ Ok forwarded → IsForwardFile forwarded bytes.now }
 {
     let header = read_header(FileKind::Forward, bytes, bytes.len() as u64)?;
     if header.count > MOST_RECORDS {
@@ -24,8 +26,9 @@ fn tested_header(bytes: &[u8]) -> Result<Header, ForwardRefused>
 
 /// What a forward file says, or the first test that it fails.
 fn tested_forward(bytes: Vec<u8>) -> Result<Forwarded, ForwardRefused>
-    ensures { MatchResult result (λ forwarded. forward_in bytes.items ≡ Ok forwarded)
+    ensures says { MatchResult result (λ forwarded. forward_in bytes.items ≡ Ok forwarded)
         (λ refused. forward_in bytes.items ≡ Err refused) }
+    ensures spelled { (forwarded : Forwarded) → forward_in bytes.items ≡ Ok forwarded → IsForwardFile forwarded bytes.items }
 {
     let header = tested_header(&bytes)?;
     Ok(Forwarded {
@@ -40,6 +43,9 @@ fn tested_forward(bytes: Vec<u8>) -> Result<Forwarded, ForwardRefused>
 pub fn forward_of(bytes: Vec<u8>) -> Result<Forwarded, ForwardRefused>
     ensures first_refusal { MatchResult result (λ forwarded. forward_in bytes.items ≡ Ok forwarded)
         (λ refused. forward_in bytes.items ≡ Err refused) }
+
+    // What is accepted is the one spelling of what was read.
+    ensures spelled { IfOk result (λ forwarded. IsForwardFile forwarded bytes.items) }
 
     // The file of each list is accepted.
     ensures accepts { (form : Form) (epoch : ℕ) (envelopes : List (List ℕ)) → CanForward form epoch envelopes

@@ -1,4 +1,4 @@
-use Rattle.std.proofs.Common.{◌≡◌, ◌⊎◌, Err, refl, ap, sym, subst, ◌∙◌, arith}
+use Rattle.std.proofs.Common.{◌≡◌, inr, refl, ap, sym, arith}
 use Rattle.std.specs.Prelude.{unwrap_or, []}
 use Rattle.std.proofs.lemmas.Result.{err_from_is_err_and}
 use Rattle.esa_job.specs.Seen.{request_of}
@@ -28,19 +28,19 @@ returns-in_err-bytes-clause-judged g c =
     (stands c.args.cabinet.now) (stands c.read_file.new.cabinet) c.in_err-bytes.field-0.0 (omega arith)
     (judged_file 4 5 (λ bytes. bytes.items) c.args.command source.Input c.input.result.now name (stands c.args.cabinet.now) (stands c.read_file.new.cabinet) _ named c.in_err-bytes.ensures))
 
-pub returns-in_err-read_forward-clause-judged : goal.returns-in_err-read_forward-clause-judged
+pub returns-in_err-forward_of-clause-judged : goal.returns-in_err-forward_of-clause-judged
 unfolding forward_file
-returns-in_err-read_forward-clause-judged g c =
-    let p = err_from_is_err_and c.from_residual-in_err-read_forward.result c.from_residual-in_err-read_forward.ensures.1 in
+returns-in_err-forward_of-clause-judged g c =
+    let p = err_from_is_err_and c.from_residual-in_err-forward_of.result c.from_residual-in_err-forward_of.ensures.1 in
     let name = name_of (request_of c.args.job.now) field.Input in
     let named : c.input.result.now ≡ name = sym (ap (λ name. unwrap_or name []) c.input.ensures) in
     let stands = stand g.K.Cabinet.told g.K.Cabinet.faults g.K.Cabinet.heard in
-    let error = c.in_err-read_forward.field-0.0 in
+    let error = c.in_err-forward_of.field-0.0 in
     rw (p.1, p.2) (judged_unread 4 5 (λ bytes. bytes.items) (λ forwarded. forwarded) (file c.args.command source.Input name) refusal.Forward forward_in c.in_ok-bytes.bytes
     (stands c.args.cabinet.now) (stands c.read_file.new.cabinet)
     (judged_file 4 5 (λ bytes. bytes.items) c.args.command source.Input c.input.result.now name (stands c.args.cabinet.now) (stands c.read_file.new.cabinet) _ named c.in_ok-bytes.ensures)
     OutOfMemory error stop_of_forward refl (forward_stops error)
-    (subst (λ bytes. (error ≡ OutOfMemory) ⊎ (forward_in bytes ≡ Err error)) c.deref.ensures.value c.in_err-read_forward.ensures.first_refusal))
+    (inr c.in_err-forward_of.ensures.first_refusal))
 
 pub returns-clause-judged : goal.returns-clause-judged
 unfolding forward_file
@@ -51,4 +51,4 @@ returns-clause-judged g c =
     judged_read 4 5 (λ bytes. bytes.items) (λ forwarded. forwarded) (file c.args.command source.Input name) refusal.Forward forward_in c.in_ok-bytes.bytes
     (stands c.args.cabinet.now) (stands c.read_file.new.cabinet)
     (judged_file 4 5 (λ bytes. bytes.items) c.args.command source.Input c.input.result.now name (stands c.args.cabinet.now) (stands c.read_file.new.cabinet) _ named c.in_ok-bytes.ensures)
-    c.in_ok-read_forward.field-0 (ap forward_in (sym c.deref.ensures.value) ∙ c.in_ok-read_forward.ensures.first_refusal)
+    c.in_ok-forward_of.field-0 c.in_ok-forward_of.ensures.first_refusal
