@@ -6,8 +6,8 @@ mod Fitting
 mod Holding
 mod Making
 mod Opening
-mod Resting
+pub mod Resting
 mod Rounding
 mod Sealing
 mod Spreading
-mod Turning
+pub mod Turning

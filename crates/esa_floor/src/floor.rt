@@ -209,6 +209,13 @@ impl<V: Device, G: Told> Floor<V, G> {
         self.outcome = Some(outcome);
     }
 
+    /// The plan.
+    pub fn plan(&self) -> Plan
+        ensures { result ≡ self.now.plan }
+    {
+        self.exchanger.plan()
+    }
+
     /// The turns and the owner's entries, the oldest first.
     pub fn history(&self) -> &[u32]
         ensures { result.now ≡ self.now.history }

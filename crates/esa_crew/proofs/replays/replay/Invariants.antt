@@ -1,0 +1,27 @@
+-- So many turns of the completed list were taken, and no fewer finish the attempt.
+use Rattle.std.proofs.Common.{◌≡◌, ℕ, ◌<◌, ◌++◌, false, length, take}
+use Rattle.esa_spec.specs.Completion.{completed}
+use Rattle.esa_spec.specs.Traces.{spread}
+use Rattle.esa_spec.specs.Verdicts.{is_finished}
+use Rattle.esa_floor.specs.Marks.{roots_of}
+use Rattle.esa_floor.specs.Standing.{Stands, attempt_begun, turns_made}
+use Rattle.esa_crew.specs.Posts.{ArePosts}
+use Rattle.esa_crew.proofs.replays.replay.Given as goal
+
+abbrev pub invariant-loop-made : goal.invariant-loop-made
+invariant-loop-made g l =
+    let p = l.initial.floor.plan in
+    let a = attempt_begun l.initial.floor in
+    let h = take l.made (completed p l.turns) in
+    record {
+      stands : Stands g.V.Device.faults g.G.Told.plan g.G.Told.draws l.floor;
+      posts : ArePosts g.G.Told.draws g.C.Coins.target_list l.floor l.workers;
+      each : length l.workers ≡ length l.initial.workers;
+      origin : roots_of l.floor ≡ roots_of l.initial.floor;
+      attempt : l.floor.attempt ≡ l.initial.floor.attempt;
+      begun : attempt_begun l.floor ≡ a;
+      turns : turns_made l.floor ≡ h;
+      history : l.floor.history ≡ l.initial.floor.history ++ h;
+      trace : l.floor.recorder.trace ≡ l.initial.floor.recorder.trace ++ spread p (g.G.Told.draws a) a h;
+      unfinished : (x : ℕ) → x < l.made → is_finished p (g.G.Told.draws a) (take x (completed p l.turns)) ≡ false;
+    }

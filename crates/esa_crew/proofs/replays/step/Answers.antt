@@ -1,0 +1,39 @@
+-- The worker stands after its turn and its private work, and so do the others.
+use Rattle.std.proofs.Common.{sym, ap, ◌∙◌}
+use Rattle.esa_floor.specs.Working.{Working}
+use Rattle.esa_crew.proofs.Posting.{of_on, of_same, turns_on}
+use Rattle.esa_crew.proofs.replays.step.Goals as goal
+
+pub returns-clause-turns : goal.returns-clause-turns
+returns-clause-turns g c =
+    turns_on c.args.floor.now c.turn.new.self c.turn.ensures.origin c.args.worker.now.number c.requires.post.of.number c.turn.ensures.history
+
+pub returns-clause-post : goal.returns-clause-post
+returns-clause-post g c =
+    let w = c.args.worker.now in
+    let kept = c.prepare.ensures.kept in
+    let moved = c.turn.ensures.moved in
+    let stands = c.turn.ensures.worker c.requires.begun in
+    record {
+      number = ap (λ (x : Working _). x.number) kept ∙ ap (λ (x : Working _). x.number) moved;
+      of = of_same c.turn.new.self g.G.Told.draws g.C.Coins.target_list w c.prepare.new.self
+          (ap (λ (x : Working _). x.coins) kept ∙ ap (λ (x : Working _). x.coins) moved)
+          (ap (λ (x : Working _). x.number) kept ∙ ap (λ (x : Working _). x.number) moved)
+          (ap (λ (x : Working _). x.buffers.plan) kept ∙ ap (λ (x : Working _). x.buffers.plan) moved)
+          (ap (λ (x : Working _). x.outer) kept ∙ ap (λ (x : Working _). x.outer) moved)
+          (ap (λ (x : Working _). x.run) kept ∙ ap (λ (x : Working _). x.run) moved)
+          (of_on c.args.floor.now c.turn.new.self c.turn.ensures.origin g.G.Told.draws (g.C.Coins.target_list w.coins) w c.requires.post.of);
+      ready = c.prepare.ensures.ready;
+      stands = record {
+        attempt = ap (λ (x : Working _). x.attempt) kept ∙ stands.attempt;
+        round = λ runs. c.prepare.ensures.round _ _ (stands.round runs);
+      };
+    }
+
+pub returns-clause-others : goal.returns-clause-others
+returns-clause-others g c = λ number other apart post. record {
+  number = post.number;
+  of = of_on c.args.floor.now c.turn.new.self c.turn.ensures.origin g.G.Told.draws (g.C.Coins.target_list other.coins) other post.of;
+  ready = post.ready;
+  stands = c.turn.ensures.others other (λ same. apart (sym post.number ∙ same)) post.stands;
+}

@@ -1,0 +1,26 @@
+-- The worker at the index of a number has that number.
+use Rattle.std.proofs.Common.{ℕ, ◌++◌, ap, ◌∙◌, subst}
+use Rattle.std.specs.Option.{option_to_list}
+use Rattle.esa_spec.specs.Traces.{asked}
+use Rattle.esa_spec.specs.Turns.{next}
+use Rattle.esa_floor.specs.Standing.{attempt_begun, turns_made}
+use Rattle.esa_crew.specs.Posts.{IsPost}
+use Rattle.esa_crew.proofs.Posting.{posts_on}
+use Rattle.esa_crew.proofs.replays.step_of.Goals as goal
+
+pub returns-clause-access : goal.returns-clause-access
+returns-clause-access g c =
+    let f = c.args.floor.now in
+    let w = c.index-workers-number.result in
+    let number = (c.requires.posts c.args.number w c.requires.number).number in
+    c.step.ensures.access
+    ∙ ap (λ (k : ℕ). f.recorder.trace ++ option_to_list (asked f.plan (attempt_begun f) (next f.plan.b (turns_made f) k))) number
+
+pub returns-clause-posts : goal.returns-clause-posts
+returns-clause-posts g c =
+    let f = c.args.floor.now in
+    let w = c.index-workers-number.result in
+    let number = (c.requires.posts c.args.number w c.requires.number).number in
+    posts_on g.G.Told.draws g.C.Coins.target_list f c.step.new.floor c.args.workers.now c.args.number c.step.new.worker c.requires.number c.requires.posts
+    (subst (λ (k : ℕ). IsPost g.G.Told.draws g.C.Coins.target_list c.step.new.floor k c.step.new.worker) number c.step.ensures.post)
+    (λ k other apart post. c.step.ensures.others k other (λ same. apart (same ∙ number)) post)

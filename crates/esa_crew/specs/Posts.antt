@@ -1,0 +1,17 @@
+-- The workers of a floor, each at its post.
+use Rattle.std.specs.Prelude.{◌≡◌, ℕ, ◌<◌, List, length, slice_index_or}
+use Rattle.esa_spec.specs.Draws.{Draw}
+use Rattle.esa_floor.specs.Parts.{Parts}
+use Rattle.esa_floor.specs.Workers.{IsOfFloor, WorkerStands}
+use Rattle.esa_floor.specs.Working.{IsReady, Working}
+
+-- the worker has this number, is of the floor, stands for its history, and has nothing left to prepare
+pub record IsPost {V C : Type 0} (ds : ℕ → Draw) (target_lists : C → ℕ → ℕ → List ℕ) (f : Parts V) (place : ℕ) (w : Working C) : Type 0 where
+  pub number : w.number ≡ place
+  pub of : IsOfFloor ds (target_lists w.coins) f w
+  pub ready : IsReady w.stage
+  pub stands : WorkerStands f w
+
+-- each worker stands at the index of its number
+abbrev pub ArePosts : {V C : Type 0} → (ℕ → Draw) → (C → ℕ → ℕ → List ℕ) → Parts V → List (Working C) → Type 0
+ArePosts ds target_lists f workers = (k : ℕ) (w : Working _) → k < length workers → IsPost ds target_lists f k (slice_index_or workers k w)

@@ -1,0 +1,134 @@
+//! Turns that are handed in, taken on one thread.
+
+ghost use Rattle.std.specs.Prelude.{◌≡◌, ◌≢◌, ℕ, ◌+◌, ◌*◌, ◌<◌, ◌≤◌, ◌++◌, ◌∷◌, ◌^◌, [], None, All, IsTrue, true, false, length, option_to_list, slice_index};
+ghost use Rattle.esa_params.specs.Sizes.{ArePlanned};
+ghost use Rattle.esa_spec.specs.Completion.{completed};
+ghost use Rattle.esa_spec.specs.Traces.{asked};
+ghost use Rattle.esa_spec.specs.Turns.{next};
+ghost use Rattle.esa_floor.specs.Marks.{roots_of};
+ghost use Rattle.esa_floor.specs.Standing.{Stands, attempt_begun, turns_made};
+ghost use Rattle.esa_floor.specs.Working.{Working};
+ghost use Rattle.esa_crew.specs.Posts.{ArePosts, IsPost};
+ghost use Rattle.esa_crew.specs.Replays.{IsReplayed};
+
+use esa_device::Device;
+use esa_floor::{Floor, Told, Worker};
+use esa_params::Plan;
+use esa_spec::Coins;
+
+/// Takes a turn of a worker, and lets the worker prepare.
+fn step<V: Device, G: Told, C: Coins>(floor: &mut Floor<V, G>, worker: &mut Worker<'_, C>)
+    requires room { length floor.old.history < floor.old.room }
+    requires stands { Stands V.faults G.plan G.draws floor.old }
+    requires begun { floor.old.attempt ≢ None }
+    requires runs { floor.old.stop ≡ None }
+    requires post { IsPost G.draws C.target_list floor.old worker.old.number worker.old }
+    ensures history { floor.new.history ≡ floor.old.history ++ worker.old.number ∷ [] }
+    ensures stands { Stands V.faults G.plan G.draws floor.new }
+    ensures origin { roots_of floor.new ≡ roots_of floor.old }
+    ensures attempt { floor.new.attempt ≡ floor.old.attempt }
+    ensures begun { attempt_begun floor.new ≡ attempt_begun floor.old }
+    ensures turns { turns_made floor.new ≡ turns_made floor.old ++ worker.old.number ∷ [] }
+    ensures access { floor.new.recorder.trace ≡ floor.old.recorder.trace
+        ++ option_to_list (asked floor.old.plan (attempt_begun floor.old) (next floor.old.plan.b (turns_made floor.old) worker.old.number)) }
+    ensures post { IsPost G.draws C.target_list floor.new worker.old.number worker.new }
+    ensures others { (number : ℕ) (other : Working C) → number ≢ worker.old.number
+        → IsPost G.draws C.target_list floor.old number other → IsPost G.draws C.target_list floor.new number other }
+{
+    let _ = floor.turn(worker);
+    worker.prepare();
+}
+
+/// The same of the worker of this number.
+fn step_of<V: Device, G: Told, C: Coins>(
+    floor: &mut Floor<V, G>,
+    workers: &mut [Worker<'_, C>],
+    number: u32,
+)
+    requires room { length floor.old.history < floor.old.room }
+    requires stands { Stands V.faults G.plan G.draws floor.old }
+    requires begun { floor.old.attempt ≢ None }
+    requires runs { floor.old.stop ≡ None }
+    requires number { number < length workers.old }
+    requires posts { ArePosts G.draws C.target_list floor.old workers.old }
+    ensures history { floor.new.history ≡ floor.old.history ++ number ∷ [] }
+    ensures stands { Stands V.faults G.plan G.draws floor.new }
+    ensures origin { roots_of floor.new ≡ roots_of floor.old }
+    ensures attempt { floor.new.attempt ≡ floor.old.attempt }
+    ensures begun { attempt_begun floor.new ≡ attempt_begun floor.old }
+    ensures turns { turns_made floor.new ≡ turns_made floor.old ++ number ∷ [] }
+    ensures access { floor.new.recorder.trace ≡ floor.old.recorder.trace
+        ++ option_to_list (asked floor.old.plan (attempt_begun floor.old) (next floor.old.plan.b (turns_made floor.old) number)) }
+    ensures posts { ArePosts G.draws C.target_list floor.new workers.new }
+    ensures each { length workers.new ≡ length workers.old }
+{
+    let worker = &mut workers[number as usize];
+    step(floor, worker);
+}
+
+/// Whether the turns have stopped, or all chunks are written.
+fn is_over<V: Device, G: Told>(floor: &Floor<V, G>) -> bool
+    ensures open { result ≡ false → floor.now.stop ≡ None }
+    ensures fewer { result ≡ false → floor.now.counted.writes ≢ floor.now.plan.b * floor.now.plan.b }
+    ensures over { result ≡ true → floor.now.stop ≡ None → floor.now.counted.writes ≡ floor.now.plan.b * floor.now.plan.b }
+{
+    floor.stop().is_some() || floor.spread()
+}
+
+/// How many turns the completion of a list has.
+fn most_turns(plan: &Plan, turns: &[u32]) -> usize
+    requires { length turns.now ≤ 4194304 }
+    ensures value { result ≡ length turns.now + plan.now.b * (plan.now.b + 3) * plan.now.workers }
+    ensures few { result < 2 ^ 31 }
+    ensures planned { ArePlanned plan.now }
+{
+    let b = plan.b();
+    turns.len() + (b * (b + 3) * plan.workers()) as usize
+}
+
+/// The worker of a turn of the completion of a list.
+fn worker_at(plan: &Plan, turns: &[u32], turn: usize) -> u32
+    requires workers { All (λ worker. worker < plan.now.workers) turns.now }
+    requires turn { turn < length turns.now + plan.now.b * (plan.now.b + 3) * plan.now.workers }
+    ensures value { result ≡ slice_index (completed plan.now turns.now) turn }
+    ensures worker { result < plan.now.workers }
+{
+    let workers = plan.workers();
+    if turn < turns.len() {
+        turns[turn]
+    } else {
+        ((turn - turns.len()) % workers as usize) as u32
+    }
+}
+
+/// Takes the turns of a list, and behind them one turn of each worker after another, until the attempt is finished or
+/// the device fails. No turn of the attempt was made before.
+pub fn replay<V: Device, G: Told, C: Coins>(
+    floor: &mut Floor<V, G>,
+    workers: &mut [Worker<'_, C>],
+    turns: &[u32],
+)
+    requires stands { Stands V.faults G.plan G.draws floor.old }
+    requires begun { floor.old.attempt ≢ None }
+    requires fresh { turns_made floor.old ≡ [] }
+    requires each { length workers.old ≡ floor.old.plan.workers }
+    requires posts { ArePosts G.draws C.target_list floor.old workers.old }
+    requires numbers { All (λ number. number < floor.old.plan.workers) turns.now }
+    requires few { length turns.now ≤ 4194304 }
+    requires room { length floor.old.history + length (completed floor.old.plan turns.now) ≤ floor.old.room }
+    ensures stands { Stands V.faults G.plan G.draws floor.new }
+    ensures replayed { IsReplayed floor.old.plan (G.draws (attempt_begun floor.old)) (attempt_begun floor.old) turns.now floor.old floor.new }
+    ensures origin { roots_of floor.new ≡ roots_of floor.old }
+    ensures attempt { floor.new.attempt ≡ floor.old.attempt }
+    ensures posts { ArePosts G.draws C.target_list floor.new workers.new }
+    ensures each { length workers.new ≡ length workers.old }
+{
+    let plan = floor.plan();
+    for made in 0..most_turns(&plan, turns) {
+        if is_over(floor) {
+            return;
+        }
+        let number = worker_at(&plan, turns, made);
+        step_of(floor, workers, number);
+    }
+}
