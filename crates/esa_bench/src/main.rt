@@ -14,6 +14,7 @@ mod encode;
 mod forecast;
 mod forward;
 mod stash;
+mod threshold;
 mod turnstile;
 mod vault;
 
@@ -26,6 +27,7 @@ use forward::Values;
 use stash::Then;
 use std::env;
 use std::rt::Files;
+use threshold::Work;
 use turnstile::Load;
 
 fn main(rt: HostRuntime) -> Result<()> {
@@ -38,6 +40,7 @@ fn main(rt: HostRuntime) -> Result<()> {
         stash::fill(&rt, 4_000, Then::Exchanges(2))?;
         encode::small(&rt, rt.alloc())?;
         vault::small(&rt)?;
+        threshold::small(&rt)?;
         forecast::small(&rt, rt.alloc())?;
         return turnstile::small(&rt, rt.alloc());
     };
@@ -69,6 +72,14 @@ fn main(rt: HostRuntime) -> Result<()> {
         };
         return vault::measure(&rt, &load);
     }
+    if let Some(work) = threshold_work(module.as_str()) {
+        let load = threshold::Load {
+            records: small(size)?,
+            crowds: small(number(words.next())?)?,
+            times: small(number(words.next())?)?,
+        };
+        return threshold::measure(&rt, work, &load);
+    }
     if module.as_str() == "device" {
         return device::write_and_read(&rt);
     }
@@ -88,6 +99,15 @@ fn form_of(module: &str) -> Option<Form> {
     match module {
         "vault-one" => Some(Form::One),
         "vault-two" => Some(Form::Two),
+        _ => None,
+    }
+}
+
+/// What a word asks for of records in crowds.
+fn threshold_work(module: &str) -> Option<Work> {
+    match module {
+        "threshold" => Some(Work::Threshold),
+        "threshold-sort" => Some(Work::Sort),
         _ => None,
     }
 }

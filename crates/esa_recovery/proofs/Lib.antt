@@ -1,2 +1,4 @@
 pub mod GroupLaws
 pub mod FirstLaws
+pub mod SumsLaws
+pub mod RecoveredLaws

@@ -1,2 +1,4 @@
 pub mod Meaning
 pub mod Group
+pub mod Sums
+pub mod Recovered

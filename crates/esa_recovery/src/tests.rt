@@ -1,8 +1,10 @@
 //! Groups by hand: the shares of `abc` under the coefficients 01 01 01 are 606362 at 1 and 636061 at 2, and the mark is the
 //! front of its SHA-256 by Python's hashlib.
 
-use crate::Meanings;
+use crate::{RecoverRefused, Recovered};
 use esa_analyser::read_db;
+use esa_outside::MemCabinet;
+use std::alloc::Global;
 use std::test::Fail;
 
 /// Two shares of a value that takes two.
@@ -29,72 +31,66 @@ const APART: &[u8] =
 const ILL: &[u8] =
     b"\x45\x53\x41\x44\x01\x00\x00\x00\x05\x00\x00\x00\x00\x16\xe4\x02\x01\xba\x78\x16\xbf\x8f\x01\xcf\xea\x41\x41\x40\xde\x5d\xae\x22\x23\x60\x63\x62\x00\x00\x00\x01\x16\xe5\x01\x01\xba\x78\x16\xbf\x8f\x01\xcf\xea\x41\x41\x40\xde\x5d\xae\x22\x23\x60\x63\x62\x00\x00\x00\x01\x16\xe5\x02\x00\xba\x78\x16\xbf\x8f\x01\xcf\xea\x41\x41\x40\xde\x5d\xae\x22\x23\x60\x63\x62\x00\x00\x00\x01\x13\xe5\x02\x01\xba\x78\x16\xbf\x8f\x01\xcf\xea\x41\x41\x40\xde\x5d\xae\x22\x23\x00\x00\x00\x01\x16\xe5\x11\x01\xba\x78\x16\xbf\x8f\x01\xcf\xea\x41\x41\x40\xde\x5d\xae\x22\x23\x60\x63\x62\x00\x00\x00\x01";
 
-/// Shares at enough points give back the value.
+/// One value with the greatest count, in version 2.
+const GREATEST: &[u8] = b"ESAD\x02\x00\x00\x00\x01\x00\x00\x00\x00\x01a\xff\xff\xff\xff";
+
+/// The same beside one envelope that gave no value.
+const PAST: &[u8] = b"ESAD\x02\x00\x00\x00\x01\x00\x00\x00\x01\x01a\xff\xff\xff\xff";
+
+/// The file that is written of what the rows of a database file mean.
+fn recovered(alloc: Global, file: &[u8]) -> Result<Vec<u8>, Fail> {
+    let db = read_db(alloc, file)?;
+    let recovered = Recovered::make(alloc, &db)?;
+    let mut cabinet = MemCabinet::make(Vec::new(alloc), Vec::new(alloc));
+    recovered.write(&mut cabinet, "database")?;
+    Ok(cabinet.file("database").unwrap_or(b"").to_vec(alloc)?)
+}
+
+/// Shares at enough points give back the value, with the sum of their counts. Fewer add theirs to the number unopened.
 #[test]
 fn recover_two(rt: HostRuntime) -> Result<(), Fail> {
-    let secret = b"abc".as_slice();
-    let db = read_db(rt.alloc(), TWO)?;
-    let meanings = Meanings::make(rt.alloc(), &db)?;
-    assert_eq!(&rt; meanings.meaning(0), Some(secret));
-    assert_eq!(&rt; meanings.meaning(1), Some(secret));
+    assert_eq!(&rt;
+        recovered(rt.alloc(), TWO)?.as_slice(),
+        b"ESAD\x01\x00\x00\x00\x01\x00\x00\x00\x00\x03abc\x00\x00\x00\x07".as_slice()
+    );
+    assert_eq!(&rt;
+        recovered(rt.alloc(), ALONE)?.as_slice(),
+        b"ESAD\x01\x00\x00\x00\x00\x00\x00\x00\x03".as_slice()
+    );
     Ok(())
 }
 
-/// Fewer points than it takes give nothing.
+/// Of a point the least share counts, and all records of the group mean the value, also those that were not needed; the
+/// value's own count is added. One share that is less than the right one shuts the group, since the mark does not agree.
 #[test]
-fn group_below_threshold(rt: HostRuntime) -> Result<(), Fail> {
-    let db = read_db(rt.alloc(), ALONE)?;
-    let meanings = Meanings::make(rt.alloc(), &db)?;
-    assert_eq!(&rt; meanings.meaning(0), None);
+fn shares_of_one_point(rt: HostRuntime) -> Result<(), Fail> {
+    assert_eq!(&rt;
+        recovered(rt.alloc(), GREATER)?.as_slice(),
+        b"ESAD\x01\x00\x00\x00\x01\x00\x00\x00\x00\x03abc\x00\x00\x00\x0a".as_slice()
+    );
+    assert_eq!(&rt;
+        recovered(rt.alloc(), LESS)?.as_slice(),
+        b"ESAD\x01\x00\x00\x00\x00\x00\x00\x00\x08".as_slice()
+    );
     Ok(())
 }
 
-/// Of a point the least share counts, and all records of the group mean the value, also those that were not needed.
-#[test]
-fn greater_share_of_a_point(rt: HostRuntime) -> Result<(), Fail> {
-    let secret = b"abc".as_slice();
-    let db = read_db(rt.alloc(), GREATER)?;
-    let meanings = Meanings::make(rt.alloc(), &db)?;
-    assert_eq!(&rt; meanings.meaning(0), Some(secret));
-    assert_eq!(&rt; meanings.meaning(1), Some(secret));
-    assert_eq!(&rt; meanings.meaning(2), Some(secret));
-    assert_eq!(&rt; meanings.meaning(3), Some(secret));
-    assert_eq!(&rt; meanings.meaning(4), Some(secret));
-    Ok(())
-}
-
-/// So one share that is less than the right one shuts the group, since the mark does not agree.
-#[test]
-fn lesser_share_of_a_point(rt: HostRuntime) -> Result<(), Fail> {
-    let db = read_db(rt.alloc(), LESS)?;
-    let meanings = Meanings::make(rt.alloc(), &db)?;
-    assert_eq!(&rt; meanings.meaning(0), None);
-    assert_eq!(&rt; meanings.meaning(1), None);
-    assert_eq!(&rt; meanings.meaning(2), None);
-    Ok(())
-}
-
-/// Another mark, another length or another number of shares is another group.
+/// Another mark, another length or another number of shares is another group. What is no share record means itself.
 #[test]
 fn groups_apart(rt: HostRuntime) -> Result<(), Fail> {
-    let db = read_db(rt.alloc(), APART)?;
-    let meanings = Meanings::make(rt.alloc(), &db)?;
-    assert_eq!(&rt; meanings.meaning(0), None);
-    assert_eq!(&rt; meanings.meaning(1), None);
-    assert_eq!(&rt; meanings.meaning(2), None);
-    assert_eq!(&rt; meanings.meaning(3), None);
+    assert_eq!(&rt;
+        recovered(rt.alloc(), APART)?.as_slice(),
+        b"ESAD\x01\x00\x00\x00\x00\x00\x00\x00\x0f".as_slice()
+    );
+    assert_eq!(&rt; recovered(rt.alloc(), ILL)?.as_slice(), ILL);
     Ok(())
 }
 
-/// What is no share record means itself.
+/// A sum of 4,294,967,295 is the greatest that is accepted, and the version stays.
 #[test]
-fn ill_formed_records(rt: HostRuntime) -> Result<(), Fail> {
-    let db = read_db(rt.alloc(), ILL)?;
-    let meanings = Meanings::make(rt.alloc(), &db)?;
-    assert_eq!(&rt; meanings.meaning(0), Some(db.value(0)));
-    assert_eq!(&rt; meanings.meaning(1), Some(db.value(1)));
-    assert_eq!(&rt; meanings.meaning(2), Some(db.value(2)));
-    assert_eq!(&rt; meanings.meaning(3), Some(db.value(3)));
-    assert_eq!(&rt; meanings.meaning(4), Some(db.value(4)));
+fn greatest_sum(rt: HostRuntime) -> Result<(), Fail> {
+    assert_eq!(&rt; recovered(rt.alloc(), GREATEST)?.as_slice(), GREATEST);
+    let past = read_db(rt.alloc(), PAST)?;
+    assert!(&rt; matches!(Recovered::make(rt.alloc(), &past), Err(RecoverRefused::Sum)));
     Ok(())
 }

@@ -1,0 +1,211 @@
+-- The database of what rows mean can stand in a file: its counts are no greater than the sum of all counts.
+use Rattle.std.proofs.Common.{◌≡◌, ℕ, ◌+◌, ◌-◌, ◌^◌, ◌<◌, ◌≤◌, Bool, true, false, cond, List, [], ◌∷◌, length, map, get_or, take, drop, Option, Some, None, Result, Ok, Err, Less, Equal, Greater, nat_cmp, refl, sym, ap, ◌∙◌, subst, arith}
+use Rattle.std.specs.Prelude.{All, OnOk, bytes_eq, flat_map, if◌then◌else◌, nat_lt, slice_index, unwrap_or, sum_by}
+use Rattle.std.proofs.Math.Dec.{T}
+use Rattle.std.specs.Option.{IfSome}
+use Rattle.std.specs.declared.cmp.Ordering.{Ordering}
+use Rattle.std.specs.Ordering.{is_lt, eq_by_cmp}
+use Rattle.std.specs.Cmp.Lexicographic.{slice_cmp, nat_list_cmp_total}
+use Rattle.std.specs.FinMap as finite
+use Rattle.std.specs.FinMap.Entries.{put, by_order}
+use Rattle.std.proofs.lemmas.Bool.{and_parts}
+use Rattle.std.proofs.lemmas.List.{at_drop_more, length-map}
+use Rattle.std.proofs.lemmas.List.FromFn.{length-range_with_len}
+use Rattle.std.proofs.lemmas.List.Elements.{All-cons, All-get_or, All-head, All-nil, All-tail}
+use Rattle.std.proofs.lemmas.List.Sums.{sum_by-cons, sum_by-drop_more, sum_by-le-sum_by, sum_by-take-drop}
+use Rattle.esa_params.specs.declared.form.Form.{Form}
+use Rattle.esa_params.specs.Sizes.{below}
+use Rattle.esa_shares.specs.Polynomial.{column, combined, recovered}
+use Rattle.esa_shares.specs.Share.{is_share, mark_of}
+use Rattle.esa_analyser.specs.Database.{Database, longest}
+use Rattle.esa_analyser.specs.Rows.{AreRising, IsDatabase, IsRow}
+use Rattle.esa_recovery.specs.Meaning.{firsts, group_of, marked, meaning, members, needed, opened, opening, point_in, share_in}
+use Rattle.esa_recovery.specs.Recovered.{Sums, added, lost, recovered_database, summed, total}
+
+abbrev by_bytes : List ℕ → List ℕ → Ordering
+by_bytes = slice_cmp nat_cmp
+
+abbrev counts : List (List ℕ × ℕ) → ℕ
+counts rows = sum_by (λ row. row.1) rows
+
+chosen-le : (b : Bool) (x n : ℕ) (other : Option ℕ) → x ≤ n → unwrap_or other 0 ≤ n → unwrap_or (cond b (Some x) other) 0 ≤ n
+chosen-le true x n other one two = one
+chosen-le false x n other one two = two
+
+added-le : (meant : Option (List ℕ)) (count n : ℕ) (sums : Sums) → ((q : List ℕ) → unwrap_or (finite.get sums q) 0 ≤ n) → (q : List ℕ) → unwrap_or (finite.get (added meant count sums) q) 0 ≤ count + n
+added-le None count n sums less q = omega (arith, less q)
+added-le (Some value) count n sums less q =
+    subst (λ o. unwrap_or o 0 ≤ count + n) (sym (finite.get-insert nat_list_cmp_total sums value (unwrap_or (finite.get sums value) 0 + count) q))
+    (chosen-le (eq_by_cmp by_bytes q value) (unwrap_or (finite.get sums value) 0 + count) (count + n) (finite.get sums q) (omega (arith, less value)) (omega (arith, less q)))
+
+-- the sum of a value is no greater than that of all counts
+pub sum-le : (means : List ℕ → Option (List ℕ)) (rows : List (List ℕ × ℕ)) (q : List ℕ) → unwrap_or (finite.get (summed means rows) q) 0 ≤ counts rows
+sum-le means [] q = omega (arith, ap (λ o. unwrap_or o 0) (finite.get-empty {X = ℕ} by_bytes q))
+sum-le means (row ∷ rows) q =
+    subst (λ n. unwrap_or (finite.get (summed means (row ∷ rows)) q) 0 ≤ n) (sym (sum_by-cons (λ (row : List ℕ × ℕ). row.1) row rows))
+    (added-le (means row.0) row.1 (counts rows) (summed means rows) (sum-le means rows) q)
+
+lost-one : (meant : Option (List ℕ)) (count : ℕ) → lost meant count ≤ count
+lost-one None count = omega arith
+lost-one (Some value) count = omega arith
+
+-- nor is the sum of the rows that mean nothing
+pub lost-le : (means : List ℕ → Option (List ℕ)) (rows : List (List ℕ × ℕ)) → sum_by (λ (row : List ℕ × ℕ). lost (means row.0) row.1) rows ≤ counts rows
+lost-le means rows = sum_by-le-sum_by (λ (row : List ℕ × ℕ). lost (means row.0) row.1) (λ (row : List ℕ × ℕ). row.1) rows (λ row. lost-one (means row.0) row.1)
+
+-- rows with one row put among them
+all-put : (most : ℕ) (value : List ℕ) (count : ℕ) (rows : List (List ℕ × ℕ)) → All (IsRow most) rows → IsRow most (value, count) → All (IsRow most) (put by_bytes value count rows)
+all-put most value count [] are is = All-cons (IsRow most) (value, count) [] is are
+all-put most value count (row ∷ rows) are is =
+    let head = All-head (IsRow most) row rows are in
+    let tail = All-tail (IsRow most) row rows are in
+    elim (by_bytes value row.0) as (λ r. All (IsRow most) (by_order r ((value, count) ∷ row ∷ rows) ((row.0, count) ∷ rows) (row ∷ put by_bytes value count rows))) [
+      | Less ↦ All-cons (IsRow most) (value, count) (row ∷ rows) is are
+      | Equal ↦ All-cons (IsRow most) (row.0, count) rows (record { short = head.short; counted = is.counted; fits = is.fits }) tail
+      | Greater ↦ All-cons (IsRow most) row (put by_bytes value count rows) head (all-put most value count rows tail is)
+    ]
+
+rows-added : (most count n : ℕ) (meant : Option (List ℕ)) (sums : Sums) → IfSome meant (λ value. length value ≤ most) → 0 < count → ((q : List ℕ) → unwrap_or (finite.get sums q) 0 ≤ n)
+    → count + n < 2 ^ 32 → All (IsRow most) (finite.entries sums) → All (IsRow most) (finite.entries (added meant count sums))
+rows-added most count n None sums short some less small are = are
+rows-added most count n (Some value) sums short some less small are =
+    subst (All (IsRow most)) (sym (finite.entries-insert nat_list_cmp_total sums value (unwrap_or (finite.get sums value) 0 + count)))
+    (all-put most value (unwrap_or (finite.get sums value) 0 + count) (finite.entries sums) are
+    (record { short = short; counted = omega arith; fits = omega (arith, less value) }))
+
+-- what the values of rows mean is no longer than they may be
+abbrev pub AreMeant : ℕ → (List ℕ → Option (List ℕ)) → List (List ℕ × ℕ) → Type 0
+AreMeant most means [] = Unit {0}
+AreMeant most means (row ∷ rows) = IfSome (means row.0) (λ value. length value ≤ most) × AreMeant most means rows
+
+no_length : (rows : List (List ℕ × ℕ)) → length rows ≡ 0 → rows ≡ []
+no_length [] none = refl
+no_length (row ∷ rows) none = absurd (omega arith)
+
+pub entries-none : finite.entries (finite.empty {X = ℕ} {R = by_bytes}) ≡ []
+entries-none = no_length _ (sym (finite.len-entries finite.empty) ∙ finite.len-empty by_bytes ℕ)
+
+rows-summed : (most : ℕ) (means : List ℕ → Option (List ℕ)) (rows : List (List ℕ × ℕ)) → All (IsRow most) rows → AreMeant most means rows → counts rows < 2 ^ 32
+    → All (IsRow most) (finite.entries (summed means rows))
+rows-summed most means [] are meant small = subst (All (IsRow most)) (sym entries-none) (All-nil (IsRow most))
+rows-summed most means (row ∷ rows) are meant small =
+    let whole = sum_by-cons (λ (row : List ℕ × ℕ). row.1) row rows in
+    let head = All-head (IsRow most) row rows are in
+    rows-added most row.1 (counts rows) (means row.0) (summed means rows) meant.0 head.counted (sum-le means rows) (omega (arith, whole, small))
+    (rows-summed most means rows (All-tail (IsRow most) row rows are) meant.1 (omega (arith, whole, small)))
+
+few-one : (b : Bool) (m n : ℕ) → m ≤ n → cond b m (m + 1) ≤ n + 1
+few-one true m n less = omega (arith, less)
+few-one false m n less = omega (arith, less)
+
+few-added : (meant : Option (List ℕ)) (count n : ℕ) (sums : Sums) → finite.len sums ≤ n → finite.len (added meant count sums) ≤ n + 1
+few-added None count n sums less = omega (arith, less)
+few-added (Some value) count n sums less =
+    subst (λ k. k ≤ n + 1) (sym (finite.len-insert nat_list_cmp_total sums value (unwrap_or (finite.get sums value) 0 + count)))
+    (few-one (finite.contains_key sums value) (finite.len sums) n less)
+
+few-summed : (means : List ℕ → Option (List ℕ)) (rows : List (List ℕ × ℕ)) → finite.len (summed means rows) ≤ length rows
+few-summed means [] = omega (arith, finite.len-empty by_bytes ℕ)
+few-summed means (row ∷ rows) = omega (arith, few-added (means row.0) row.1 (length rows) (summed means rows) (few-summed means rows))
+
+-- entries with rising keys are rising rows
+rising_behind : (before : List ℕ) (rows : List (List ℕ × ℕ)) → finite.Entries.below_all by_bytes before rows ≡ true → finite.is_sorted by_bytes rows ≡ true → AreRising (Some before) rows
+rising_behind before [] below sorted = tt
+rising_behind before (row ∷ rows) below sorted =
+    let parts = and_parts (finite.Entries.below_all by_bytes row.0 rows) (finite.is_sorted by_bytes rows) sorted in
+    ((and_parts (is_lt (by_bytes before row.0)) (finite.Entries.below_all by_bytes before rows) below).0, rising_behind row.0 rows parts.0 parts.1)
+
+holds : (b : Bool) → T b → b ≡ true
+holds true h = refl
+holds false h = absurd h
+
+rising : (rows : List (List ℕ × ℕ)) → finite.is_sorted by_bytes rows ≡ true → AreRising None rows
+rising [] sorted = tt
+rising (row ∷ rows) sorted =
+    let parts = and_parts (finite.Entries.below_all by_bytes row.0 rows) (finite.is_sorted by_bytes rows) sorted in
+    (refl, rising_behind row.0 rows parts.0 parts.1)
+
+if-some : {X : Type 0} (b : Bool) (one other : Option X) (P : X → Type 0) → IfSome one P → IfSome other P → IfSome (if b then one else other) P
+if-some true one other P first second = first
+if-some false one other P first second = second
+
+marked-short : (mark value : List ℕ) (most : ℕ) → length value ≤ most → IfSome (marked mark value) (λ value. length value ≤ most)
+marked-short mark value most short = if-some (bytes_eq (mark_of value) mark) (Some value) None (λ value. length value ≤ most) short tt
+
+opening-short : (group : List ℕ) (values : List (List ℕ)) (most : ℕ) → slice_index group 1 - 19 ≤ most → IfSome (opening group values) (λ value. length value ≤ most)
+opening-short group values most short =
+    let size = slice_index group 1 - 19 in
+    let secret = recovered size (map point_in values) (flat_map share_in values) in
+    let long : length secret ≡ size =
+    length-map (below size) (λ y. combined (map point_in values) (map point_in values) (column size y (length (map point_in values)) (flat_map share_in values))) ∙ length-range_with_len 0 size in
+    if-some (nat_lt (length values) (needed group)) None (marked (drop 2 group) secret) (λ value. length value ≤ most) tt (marked-short (drop 2 group) secret most (omega (arith, long, short)))
+
+meaning-short : (rows : List (List ℕ × ℕ)) (value : List ℕ) (most : ℕ) → length value ≤ most → IfSome (meaning rows value) (λ value. length value ≤ most)
+meaning-short rows value most short =
+    if-some (is_share value) (opened (group_of value) rows) (Some value) (λ value. length value ≤ most)
+    (opening-short (group_of value) (take (needed (group_of value)) (firsts [] (members (group_of value) rows))) most (omega (arith, short))) short
+
+are-meant : (most : ℕ) (all rows : List (List ℕ × ℕ)) → All (IsRow most) rows → AreMeant most (meaning all) rows
+are-meant most all [] are = tt
+are-meant most all (row ∷ rows) are =
+    (meaning-short all row.0 most (All-head (IsRow most) row rows are).short, are-meant most all rows (All-tail (IsRow most) row rows are))
+
+-- a file can hold it
+pub IsDatabase-recovered : (form : Form) (database : Database) → IsDatabase form database → total database < 2 ^ 32 → IsDatabase form (recovered_database database)
+IsDatabase-recovered form database is small =
+    let means = meaning database.rows in
+    record {
+      rising = rising (finite.entries (summed means database.rows)) (holds _ (finite.entries_sorted (summed means database.rows)));
+      rows = rows-summed (longest form) means database.rows is.rows (are-meant (longest form) database.rows database.rows is.rows) (omega (arith, small));
+      number = omega (arith, few-summed means database.rows, finite.len-entries (summed means database.rows), is.number);
+      unopened = omega (arith, lost-le means database.rows, small);
+    }
+
+-- a fact that follows from another, where a call is done
+pub on-ok : {T E : Type 0} (result : Result T E) (A B : Type 0) → (A → B) → OnOk result A → OnOk result B
+on-ok (Ok done) A B step fact = step fact
+on-ok (Err error) A B step fact = fact
+
+-- what is kept of a sum that grew
+pub entries-added : (value : List ℕ) (count : ℕ) (sums : Sums) (old new : List (List ℕ × ℕ)) → old ≡ finite.entries sums
+    → new ≡ put by_bytes value (unwrap_or (finite.find by_bytes value old) 0 + count) old → new ≡ finite.entries (added (Some value) count sums)
+entries-added value count sums old new is now =
+    now
+    ∙ (λ i. put by_bytes value (unwrap_or (finite.find by_bytes value (is i)) 0 + count) (is i))
+    ∙ ap (λ o. put by_bytes value (unwrap_or o 0 + count) (finite.entries sums)) (sym (finite.get-entries sums value))
+    ∙ sym (finite.entries-insert nat_list_cmp_total sums value (unwrap_or (finite.get sums value) 0 + count))
+
+module _ (means : List ℕ → Option (List ℕ)) (rows : List (List ℕ × ℕ)) (k left : ℕ) (inside : k < length rows) (next : left ≡ k + 1) (small : counts rows < 2 ^ 32) where
+  -- the count of the row before these fits
+  pub sum-fits : (old : List (List ℕ × ℕ)) (q : List ℕ) → old ≡ finite.entries (summed means (drop left rows)) → unwrap_or (finite.find by_bytes q old) 0 + (get_or rows k ([], 0)).1 < 2 ^ 32
+  sum-fits old q is =
+      let here : counts (drop k rows) ≡ (get_or rows k ([], 0)).1 + counts (drop left rows) =
+      sum_by-drop_more (λ (row : List ℕ × ℕ). row.1) rows k ([], 0) inside ∙ ap (λ n. (get_or rows k ([], 0)).1 + counts (drop n rows)) (sym next) in
+      let all = sum_by-take-drop (λ (row : List ℕ × ℕ). row.1) rows k in
+      let less : unwrap_or (finite.find by_bytes q old) 0 ≤ counts (drop left rows) =
+      subst (λ o. unwrap_or o 0 ≤ counts (drop left rows)) (finite.get-entries (summed means (drop left rows)) q ∙ ap (finite.find by_bytes q) (sym is)) (sum-le means (drop left rows) q) in
+      omega (arith, here, all, less, small)
+
+  pub lost-fits : (old : ℕ) → old ≡ sum_by (λ (row : List ℕ × ℕ). lost (means row.0) row.1) (drop left rows) → old + (get_or rows k ([], 0)).1 < 2 ^ 32
+  lost-fits old is =
+      let here : counts (drop k rows) ≡ (get_or rows k ([], 0)).1 + counts (drop left rows) =
+      sum_by-drop_more (λ (row : List ℕ × ℕ). row.1) rows k ([], 0) inside ∙ ap (λ n. (get_or rows k ([], 0)).1 + counts (drop n rows)) (sym next) in
+      let all = sum_by-take-drop (λ (row : List ℕ × ℕ). row.1) rows k in
+      omega (arith, here, all, lost-le means (drop left rows), is, small)
+
+  -- and what it adds
+  pub summed-more : (meant : Option (List ℕ)) (count : ℕ) → meant ≡ means (get_or rows k ([], 0)).0 → count ≡ (get_or rows k ([], 0)).1
+      → added meant count (summed means (drop left rows)) ≡ summed means (drop k rows)
+  summed-more meant count is counted =
+      (λ i. added (is i) (counted i) (summed means (drop (next i) rows)))
+      ∙ sym (at_drop_more (summed means) rows k ([], 0) inside)
+
+  pub lost-more : (meant : Option (List ℕ)) (count old : ℕ) → meant ≡ means (get_or rows k ([], 0)).0 → count ≡ (get_or rows k ([], 0)).1
+      → old ≡ sum_by (λ (row : List ℕ × ℕ). lost (means row.0) row.1) (drop left rows)
+      → old + lost meant count ≡ sum_by (λ (row : List ℕ × ℕ). lost (means row.0) row.1) (drop k rows)
+  lost-more meant count old is counted before =
+      let f : List ℕ × ℕ → ℕ = λ row. lost (means row.0) row.1 in
+      let here : sum_by f (drop k rows) ≡ lost (means (get_or rows k ([], 0)).0) (get_or rows k ([], 0)).1 + sum_by f (drop left rows) =
+      sum_by-drop_more f rows k ([], 0) inside ∙ ap (λ n. lost (means (get_or rows k ([], 0)).0) (get_or rows k ([], 0)).1 + sum_by f (drop n rows)) (sym next) in
+      let same : lost meant count ≡ lost (means (get_or rows k ([], 0)).0) (get_or rows k ([], 0)).1 = (λ i. lost (is i) (counted i)) in
+      omega (arith, here, same, before)

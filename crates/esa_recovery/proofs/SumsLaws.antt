@@ -1,0 +1,23 @@
+-- Kept sums, as a finite map's entries.
+use Rattle.std.proofs.Common.{◌≡◌, ℕ, cond, List, [], ◌∷◌, Some, Bor, nat_cmp, Less, Equal, Greater, refl, ap, ◌∙◌}
+use Rattle.std.specs.Ordering.{is_eq, match_ordering}
+use Rattle.std.specs.Cmp.Lexicographic.{slice_cmp}
+use Rattle.std.specs.BTreeMap.{is_at, insert_entry}
+use Rattle.std.specs.Map.{lookup}
+use Rattle.std.specs.FinMap.{find}
+use Rattle.std.specs.FinMap.Entries.{put, by_order}
+use Rattle.esa_recovery.specs.Sums.{plain}
+
+pub find-plain : (q : List ℕ) (es : List (Bor (List ℕ) × ℕ)) → lookup (is_at (λ k. slice_cmp nat_cmp q k.now)) es ≡ find (slice_cmp nat_cmp) q (plain es)
+find-plain q [] = refl
+find-plain q (e ∷ es) = ap (cond (is_eq (slice_cmp nat_cmp q e.0.now)) (Some e.1)) (find-plain q es)
+
+pub put-plain : (k : Bor (List ℕ)) (v : ℕ) (es : List (Bor (List ℕ) × ℕ)) → plain (insert_entry (λ a b. slice_cmp nat_cmp a.now b.now) es k v) ≡ put (slice_cmp nat_cmp) k.now v (plain es)
+put-plain k v [] = refl
+put-plain k v (e ∷ es) =
+    elim (slice_cmp nat_cmp k.now e.0.now) as (λ r. plain (match_ordering r ((k, v) ∷ e ∷ es) ((e.0, v) ∷ es) (e ∷ insert_entry (λ a b. slice_cmp nat_cmp a.now b.now) es k v))
+    ≡ by_order r ((k.now, v) ∷ plain (e ∷ es)) ((e.0.now, v) ∷ plain es) ((e.0.now, e.1) ∷ put (slice_cmp nat_cmp) k.now v (plain es))) [
+      | Less ↦ refl
+      | Equal ↦ refl
+      | Greater ↦ ap (λ rest. (e.0.now, e.1) ∷ rest) (put-plain k v es)
+    ]
