@@ -234,6 +234,17 @@ judged_out first last one two steps before now value j = record {
 pub judged_steps : {X A : Type 0} (first last : ℕ) (view : X → A) (one two : Reads → Step A) (before now : Stand Files) (result : Result X Stop) → one ≡ two → Judged first last view one before now result → Judged first last view two before now result
 judged_steps first last view one two before now result is j = subst (λ steps. Judged first last view steps before now result) is j
 
+-- what is accepted without a file
+pub judged_already : {X A : Type 0} (first last : ℕ) (view : X → A) (steps : Reads → Step A) (before : Stand Files) (value : X) → first ≤ last → ((read : Reads) → steps read ≡ accepted (view value)) → Judged first last view steps before before (Ok value)
+judged_already first last view steps before value order is = record {
+  given = [];
+  heard = sym (append-nil before.heard);
+  once = order;
+  tells = λ files told. tt;
+  answers = λ read agree. (is read, refl);
+  told = refl;
+}
+
 -- the same file, by a name that is the same
 pub judged_file : {X : Type 0} (first last : ℕ) (view : X → List ℕ) (command : Command) (source : Source) (one two : List ℕ) (before now : Stand Files) (result : Result X Stop) → one ≡ two
     → Judged first last view (file command source one) before now result → Judged first last view (file command source two) before now result
