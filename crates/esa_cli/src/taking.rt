@@ -18,7 +18,7 @@ use crate::stop::Stop;
 use esa_analyser::{Db, DbRefused, read_db};
 use esa_job::{Command, Job, JobField, JobRefused, KeyField, KeyRing, KeysRefused};
 use esa_outside::Cabinet;
-use esa_threshold::{ForwardRefused, Forwarded, read_forward};
+use esa_threshold::{ForwardRefused, Forwarded, forward_of};
 use std::alloc::Global;
 
 impl From<JobRefused> for Stop {
@@ -121,7 +121,7 @@ pub fn take_forward<K: Cabinet>(
     ensures whole { IfOk result AreWhole }
 {
     let bytes = read_file(alloc, cabinet, command, Source::Input, job.input())?;
-    Ok(read_forward(alloc, &bytes)?)
+    Ok(forward_of(bytes)?)
 }
 
 /// Reads the database file of a job.
