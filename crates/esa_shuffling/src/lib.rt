@@ -3,5 +3,9 @@
 #![tactic(auto)]
 
 mod batch_command;
+mod plan_command;
+mod taking;
 
 pub use batch_command::batch;
+pub use plan_command::plan;
+pub use taking::{plan_of, take_coins, take_turns};
