@@ -1,3 +1,5 @@
+mod Beginning
 mod Ending
+mod Loading
 mod Posting
 mod Replaying

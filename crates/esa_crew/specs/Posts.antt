@@ -5,7 +5,12 @@ use Rattle.esa_floor.specs.Parts.{Parts}
 use Rattle.esa_floor.specs.Workers.{IsOfFloor, WorkerStands}
 use Rattle.esa_floor.specs.Working.{IsReady, Working}
 
--- the worker has this number, is of the floor, stands for its history, and has nothing left to prepare
+-- the worker has this number and is of the floor
+pub record IsMember {V C : Type 0} (ds : ℕ → Draw) (target_lists : C → ℕ → ℕ → List ℕ) (f : Parts V) (place : ℕ) (w : Working C) : Type 0 where
+  pub number : w.number ≡ place
+  pub of : IsOfFloor ds (target_lists w.coins) f w
+
+-- it also stands for the floor's history, and has nothing left to prepare
 pub record IsPost {V C : Type 0} (ds : ℕ → Draw) (target_lists : C → ℕ → ℕ → List ℕ) (f : Parts V) (place : ℕ) (w : Working C) : Type 0 where
   pub number : w.number ≡ place
   pub of : IsOfFloor ds (target_lists w.coins) f w
@@ -13,5 +18,8 @@ pub record IsPost {V C : Type 0} (ds : ℕ → Draw) (target_lists : C → ℕ �
   pub stands : WorkerStands f w
 
 -- each worker stands at the index of its number
+abbrev pub AreMembers : {V C : Type 0} → (ℕ → Draw) → (C → ℕ → ℕ → List ℕ) → Parts V → List (Working C) → Type 0
+AreMembers ds target_lists f workers = (k : ℕ) (w : Working _) → k < length workers → IsMember ds target_lists f k (slice_index_or workers k w)
+
 abbrev pub ArePosts : {V C : Type 0} → (ℕ → Draw) → (C → ℕ → ℕ → List ℕ) → Parts V → List (Working C) → Type 0
 ArePosts ds target_lists f workers = (k : ℕ) (w : Working _) → k < length workers → IsPost ds target_lists f k (slice_index_or workers k w)

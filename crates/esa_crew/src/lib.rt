@@ -4,6 +4,10 @@
 //! whatever they are. Stands on the floor, esa_floor, and on the laws of completed lists, esa_laws.
 #![tactic(auto)]
 
+mod begins;
+mod loads;
 mod replays;
 
+pub use begins::begin;
+pub use loads::loaded_floors_begin;
 pub use replays::replay;

@@ -1,0 +1,25 @@
+-- One worker more has begun.
+use Rattle.std.proofs.Common.{◌<◌, length, length-set, ◌∙◌, arith}
+use Rattle.esa_crew.proofs.Beginning.{members_more, none_made, posts_more}
+use Rattle.esa_crew.proofs.begins.begin.Goals as goal
+
+pub loop-place-preserved : goal.loop-place-preserved
+loop-place-preserved g c =
+    let f = c.args.floor.now in
+    let inv = c.loop-place.invariant in
+    let workers = c.loop-place.workers in
+    let n = c.loop-place.place in
+    let new = c.begin-in-loop-place.new.self in
+    let each = inv.each in
+    let test = c.loop-place-test.true in
+    let inside : n < length workers = omega (arith, each, test) in
+    record {
+      posts = posts_more g.G.Told.draws g.C.Coins.target_list f c.begin.new.self c.args.attempt c.begin.ensures.begun workers n c.index-workers-place.result new inside inv.members
+          c.begin-in-loop-place.ensures inv.posts;
+      members = members_more g.G.Told.draws g.C.Coins.target_list f c.begin.new.self c.args.attempt c.begin.ensures.begun workers n c.index-workers-place.result new inside inv.members
+          c.begin-in-loop-place.ensures;
+      each = length-set workers n new ∙ each;
+    }
+
+pub returns-clause-fresh : goal.returns-clause-fresh
+returns-clause-fresh g c = none_made g.G.Told.draws g.C.Coins.target_list c.args.floor.now c.begin.new.self c.args.attempt c.begin.ensures.begun
