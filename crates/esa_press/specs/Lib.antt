@@ -1,2 +1,4 @@
+pub mod Drained
 pub mod Fetched
+pub mod Pressed
 pub mod Records

@@ -7,9 +7,13 @@
 #![tactic(auto)]
 
 mod fetch;
+mod halt;
 mod import;
+mod press;
 mod room;
 mod store;
 
 pub use fetch::fetch_items;
+pub use halt::Halt;
+pub use press::Press;
 pub use store::store_items;
