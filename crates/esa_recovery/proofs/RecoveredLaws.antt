@@ -1,14 +1,14 @@
 -- The database of what rows mean can stand in a file: its counts are no greater than the sum of all counts.
 use Rattle.std.proofs.Common.{◌≡◌, ℕ, ◌+◌, ◌-◌, ◌^◌, ◌<◌, ◌≤◌, Bool, true, false, cond, List, [], ◌∷◌, length, map, get_or, take, drop, Option, Some, None, Result, Ok, Err, Less, Equal, Greater, nat_cmp, refl, sym, ap, ◌∙◌, subst, arith}
-use Rattle.std.specs.Prelude.{All, OnOk, bytes_eq, flat_map, if◌then◌else◌, nat_lt, slice_index, unwrap_or, sum_by}
+use Rattle.std.specs.Prelude.{All, IfOk, MatchResult, OnOk, bytes_eq, flat_map, if◌then◌else◌, nat_lt, slice_index, unwrap_or, sum_by}
 use Rattle.std.proofs.Math.Dec.{T}
 use Rattle.std.specs.Option.{IfSome}
 use Rattle.std.specs.declared.cmp.Ordering.{Ordering}
-use Rattle.std.specs.Ordering.{is_lt, eq_by_cmp}
+use Rattle.std.specs.Ordering.{is_eq, is_lt, eq_by_cmp}
 use Rattle.std.specs.Cmp.Lexicographic.{slice_cmp, nat_list_cmp_total}
 use Rattle.std.specs.FinMap as finite
 use Rattle.std.specs.FinMap.Entries.{put, by_order}
-use Rattle.std.proofs.lemmas.Bool.{and_parts}
+use Rattle.std.proofs.lemmas.Bool.{and_parts, false≢true}
 use Rattle.std.proofs.lemmas.List.{at_drop_more, length-map}
 use Rattle.std.proofs.lemmas.List.FromFn.{length-range_with_len}
 use Rattle.std.proofs.lemmas.List.Elements.{All-cons, All-get_or, All-head, All-nil, All-tail}
@@ -18,6 +18,7 @@ use Rattle.esa_params.specs.Sizes.{below}
 use Rattle.esa_shares.specs.Polynomial.{column, combined, recovered}
 use Rattle.esa_shares.specs.Share.{is_share, mark_of}
 use Rattle.esa_analyser.specs.Database.{Database, longest}
+use Rattle.esa_analyser.specs.Stored.{Stored}
 use Rattle.esa_analyser.specs.Rows.{AreRising, IsDatabase, IsRow}
 use Rattle.esa_recovery.specs.Meaning.{firsts, group_of, marked, meaning, members, needed, opened, opening, point_in, share_in}
 use Rattle.esa_recovery.specs.Recovered.{Sums, added, lost, recovered_database, summed, total}
@@ -124,6 +125,66 @@ rising [] sorted = tt
 rising (row ∷ rows) sorted =
     let parts = and_parts (finite.Entries.below_all by_bytes row.0 rows) (finite.is_sorted by_bytes rows) sorted in
     (refl, rising_behind row.0 rows parts.0 parts.1)
+
+is-less : (r : Ordering) → is_lt r ≡ true → r ≡ Less
+is-less Less less = refl
+is-less Equal less = absurd (false≢true less)
+is-less Greater less = absurd (false≢true less)
+
+-- a key below all others isn't among them
+find-below : (k x : List ℕ) (rows : List (List ℕ × ℕ)) → by_bytes k x ≡ Less → finite.Entries.below_all by_bytes x rows ≡ true → finite.find by_bytes k rows ≡ None
+find-below k x [] less below = refl
+find-below k x (row ∷ rows) less below =
+    let parts = and_parts (is_lt (by_bytes x row.0)) (finite.Entries.below_all by_bytes x rows) below in
+    let here : by_bytes k row.0 ≡ Less = nat_list_cmp_total.trans k x row.0 less (is-less (by_bytes x row.0) parts.0) in
+    ap (λ r. cond (is_eq r) (Some row.1) (finite.find by_bytes k rows)) here ∙ find-below k x rows less parts.1
+
+-- a count that is added to that of its key
+sum-put : (k : List ℕ) (count n : ℕ) (rows : List (List ℕ × ℕ)) → finite.is_sorted by_bytes rows ≡ true → n ≡ unwrap_or (finite.find by_bytes k rows) 0 + count
+    → counts (put by_bytes k n rows) ≡ counts rows + count
+sum-put k count n [] sorted is = omega (arith, sum_by-cons (λ (row : List ℕ × ℕ). row.1) (k, n) [], is)
+sum-put k count n (row ∷ rows) sorted is =
+    let parts = and_parts (finite.Entries.below_all by_bytes row.0 rows) (finite.is_sorted by_bytes rows) sorted in
+    let whole = sum_by-cons (λ (row : List ℕ × ℕ). row.1) row rows in
+    let found : (r : Ordering) → by_bytes k row.0 ≡ r → n ≡ unwrap_or (cond (is_eq r) (Some row.1) (finite.find by_bytes k rows)) 0 + count =
+    λ r e. is ∙ ap (λ r. unwrap_or (cond (is_eq r) (Some row.1) (finite.find by_bytes k rows)) 0 + count) e in
+    elim (by_bytes k row.0) as (λ r. by_bytes k row.0 ≡ r → counts (by_order r ((k, n) ∷ row ∷ rows) ((row.0, n) ∷ rows) (row ∷ put by_bytes k n rows)) ≡ counts (row ∷ rows) + count) [
+      | Less ↦ λ e.
+          let none : unwrap_or (finite.find by_bytes k rows) 0 ≡ 0 = ap (λ o. unwrap_or o 0) (find-below k row.0 rows e parts.0) in
+          omega (arith, sum_by-cons (λ (row : List ℕ × ℕ). row.1) (k, n) (row ∷ rows), found Less e, none)
+      | Equal ↦ λ e. omega (arith, sum_by-cons (λ (row : List ℕ × ℕ). row.1) (row.0, n) rows, found Equal e, whole)
+      | Greater ↦ λ e.
+          omega (arith, sum_by-cons (λ (row : List ℕ × ℕ). row.1) row (put by_bytes k n rows), whole, sum-put k count n rows parts.1 (found Greater e))
+    ] refl
+
+sum-added : (meant : Option (List ℕ)) (count : ℕ) (sums : Sums) → counts (finite.entries (added meant count sums)) + lost meant count ≡ counts (finite.entries sums) + count
+sum-added None count sums = refl
+sum-added (Some value) count sums =
+    let now = ap counts (finite.entries-insert nat_list_cmp_total sums value (unwrap_or (finite.get sums value) 0 + count)) in
+    let put_is = sum-put value count (unwrap_or (finite.get sums value) 0 + count) (finite.entries sums) (holds _ (finite.entries_sorted sums))
+    (ap (λ o. unwrap_or o 0 + count) (finite.get-entries sums value)) in
+    omega (arith, now, put_is)
+
+sum-summed : (means : List ℕ → Option (List ℕ)) (rows : List (List ℕ × ℕ)) → counts (finite.entries (summed means rows)) + sum_by (λ (row : List ℕ × ℕ). lost (means row.0) row.1) rows ≡ counts rows
+sum-summed means [] = omega (arith, ap counts entries-none)
+sum-summed means (row ∷ rows) =
+    omega (
+      arith,
+      sum-added (means row.0) row.1 (summed means rows),
+      sum-summed means rows,
+      sum_by-cons (λ (row : List ℕ × ℕ). row.1) row rows,
+      sum_by-cons (λ (row : List ℕ × ℕ). lost (means row.0) row.1) row rows,
+    )
+
+-- no count is lost
+total-recovered : (database : Database) → total (recovered_database database) ≡ total database
+total-recovered database = omega (arith, sum-summed (meaning database.rows) database.rows)
+
+pub total-kept : {E : Type 0} (stored : Stored) (result : Result Stored E) (why : E → Type 0)
+    → MatchResult result (λ (recovered : Stored). recovered ≡ record { form = stored.form; database = recovered_database stored.database }) why
+    → IfOk result (λ (recovered : Stored). total recovered.database ≡ total stored.database)
+total-kept stored (Ok recovered) why is = ap (λ (recovered : Stored). total recovered.database) is ∙ total-recovered stored.database
+total-kept stored (Err refused) why is = tt
 
 if-some : {X : Type 0} (b : Bool) (one other : Option X) (P : X → Type 0) → IfSome one P → IfSome other P → IfSome (if b then one else other) P
 if-some true one other P first second = first

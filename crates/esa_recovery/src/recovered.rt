@@ -79,6 +79,9 @@ impl Recovered {
     pub fn make(alloc: Global, db: &Db) -> Result<Recovered, RecoverRefused>
         requires { IsDatabase db.now.form db.now.database }
         ensures recovered { IfOk result (λ recovered. recovered ≡ record { form = db.now.form; database = recovered_database db.now.database }) }
+
+        // No count is lost.
+        ensures whole { IfOk result (λ recovered. total recovered.database ≡ total db.now.database) }
         ensures sum { (result ≡ Err Sum) ↔ (4294967295 < total db.now.database) }
     {
         if total_of(db) > u64::from(u32::MAX) {
