@@ -1,7 +1,7 @@
 //! The program: a command and a job file, over the files of the machine and its standard output.
 #![tactic(auto)]
 
-use esa_cli::{Status, esa_plain, tell};
+use esa_cli::{End, Status, esa_plain, tell};
 use esa_outside::{HostCabinet, HostPrinter};
 use std::alloc::AllocError;
 use std::env;
@@ -25,10 +25,7 @@ fn main(rt: HostRuntime) -> ExitCode {
     let mut printer = HostPrinter::make(&rt);
     let status = match words(&rt) {
         Ok(words) => esa_plain(rt.alloc(), &words, &mut cabinet, &mut printer),
-        Err(_) => {
-            tell(&Status::OutOfMemory, &mut printer);
-            Status::OutOfMemory
-        }
+        Err(_) => tell(End::Stopped(Status::OutOfMemory), &mut printer),
     };
     ExitCode::from(status.code())
 }

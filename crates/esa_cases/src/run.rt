@@ -3,7 +3,7 @@
 use crate::compare::{difference, difference_of_bytes};
 use crate::readers::{read, reading_of};
 use esa_case_file::{Call, Case, File, Run};
-use esa_cli::{Status, esa_plain, tell};
+use esa_cli::{End, Status, esa_plain, tell};
 use esa_outside::{MemCabinet, MemPrinter};
 use std::alloc::{AllocError, Global};
 
@@ -33,8 +33,10 @@ fn perform(alloc: Global, run: &Run, cabinet: &mut MemCabinet, printer: &mut Mem
         Some(reading) => read(alloc, reading, cabinet),
         None => Status::Usage,
     };
-    tell(&status, printer);
-    status
+    match status {
+        Status::Ok => Status::Ok,
+        status => tell(End::Stopped(status), printer),
+    }
 }
 
 /// Puts files into a cabinet, the later ones in the place of earlier ones of their name.

@@ -1,14 +1,3 @@
-pub mod Commands
-pub mod Ends
-pub mod Exits
-pub mod Generating
-pub mod PrintedLine
-pub mod JobCommand
-pub mod TakingExits
-pub mod Reports
-pub mod Tops
-pub mod Counts
-pub mod Upgrades
-pub mod Submissions
-pub mod Foretelling
-pub mod Forecasts
+mod Commands
+mod Steps
+mod Explaining

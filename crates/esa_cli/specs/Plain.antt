@@ -1,23 +1,25 @@
--- What a command line asks for, as the steps of its command.
-use Rattle.std.specs.Prelude.{◌≡◌, ℕ, Bool, true, false, List, Option, Some, None, ◌⊎◌}
+-- What a command line asks for, as the steps of its command, and how it ends.
+use Rattle.std.specs.Prelude.{◌≡◌, ℕ, Bool, true, false, List, Option, Some, None}
 use Rattle.esa_lists.specs.Files.{Files}
 use Rattle.esa_job.specs.declared.command.Command.{Command}
 use Rattle.esa_job.specs.declared.command.Command.TheVariants as command
-use Rattle.esa_cli.specs.Analyse.{analyse_steps}
-use Rattle.esa_cli.specs.Batching.{batch_steps}
-use Rattle.esa_cli.specs.Encode.{encode_steps}
-use Rattle.esa_cli.specs.Forecast.{plan_steps}
-use Rattle.esa_cli.specs.Generate.{generate_steps}
-use Rattle.esa_cli.specs.Stored.{histogram_steps, upgrade_steps}
-use Rattle.esa_cli.specs.declared.refusal.Refusal.TheVariants.{NotBuilt}
-use Rattle.esa_cli.specs.declared.status.Status.{Status}
-use Rattle.esa_cli.specs.declared.status.Status.TheVariants as status
-use Rattle.esa_outside.specs.Cause.{Rose}
-use Rattle.esa_cli.specs.Ends.{Ends}
-use Rattle.esa_cli.specs.Explains.{Explains, Prints, TellsLines}
-use Rattle.esa_cli.specs.Status.{status_lines}
-use Rattle.esa_cli.specs.Step.{Step, accepted, refused, Reads, reads_of}
-use Rattle.esa_cli.specs.Work.{Work}
+use Rattle.esa_refusal.specs.declared.refusal.Refusal.TheVariants.{NotBuilt}
+use Rattle.esa_refusal.specs.declared.status.End.{End}
+use Rattle.esa_refusal.specs.declared.status.End.TheVariants.{Stopped}
+use Rattle.esa_refusal.specs.declared.status.Status.{Status}
+use Rattle.esa_refusal.specs.declared.status.Status.TheVariants as status
+use Rattle.esa_command.specs.Ends.{Ends}
+use Rattle.esa_command.specs.Stand.{Stand}
+use Rattle.esa_command.specs.Step.{Step, refused, Reads}
+use Rattle.esa_command.specs.Telling.{status_in, Tells}
+use Rattle.esa_command.specs.Work.{Work}
+use Rattle.esa_encoding.specs.Encode.{encode_steps}
+use Rattle.esa_encoding.specs.Generate.{generate_steps}
+use Rattle.esa_shuffling.specs.Batch.{batch_steps}
+use Rattle.esa_shuffling.specs.Plan.{plan_steps}
+use Rattle.esa_analysing.specs.Analyse.{analyse_steps}
+use Rattle.esa_analysing.specs.Histogram.{histogram_steps}
+use Rattle.esa_analysing.specs.Upgrade.{upgrade_steps}
 
 -- the commands that are built
 abbrev pub is_built : Command → Bool
@@ -31,41 +33,30 @@ is_built command.Plan = true
 is_built _ = false
 
 -- the steps of a command over the job file of this name; a command that isn't built yet is refused
-abbrev pub steps_of : Command × List ℕ → Reads → Step Work
-steps_of (command.Gen, name) = generate_steps name
-steps_of (command.Encode, name) = encode_steps name
-steps_of (command.Batch, name) = batch_steps name
-steps_of (command.Analyse, name) = analyse_steps name
-steps_of (command.Histogram, name) = histogram_steps name
-steps_of (command.Upgrade, name) = upgrade_steps name
-steps_of (command.Plan, name) = plan_steps name
-steps_of (command, name) = λ read. refused (NotBuilt command)
+abbrev pub steps_of : Bool → Command × List ℕ → Reads → Step Work
+steps_of crew_allowed (command.Gen, name) = generate_steps crew_allowed name
+steps_of crew_allowed (command.Encode, name) = encode_steps crew_allowed name
+steps_of crew_allowed (command.Batch, name) = batch_steps crew_allowed name
+steps_of crew_allowed (command.Analyse, name) = analyse_steps crew_allowed name
+steps_of crew_allowed (command.Histogram, name) = histogram_steps crew_allowed name
+steps_of crew_allowed (command.Upgrade, name) = upgrade_steps crew_allowed name
+steps_of crew_allowed (command.Plan, name) = plan_steps crew_allowed name
+steps_of crew_allowed (command, name) = λ read. refused (NotBuilt command)
 
--- By the files that were told: the status is Usage where the words ask for nothing, and nothing is changed then.
-abbrev pub IsExplained : Option (Command × List ℕ) → Files → (before now : ℕ) → Option Files → Status → Type 0
-IsExplained None files before now left ended = (ended ≡ status.Usage) × (left ≡ Some files)
-IsExplained (Some call) files before now left ended = Explains (steps_of call) files before now left ended
+-- how a call ends before the status's own line is printed: words that ask for nothing change nothing
+abbrev pub CallEnds : Option (Command × List ℕ) → (cabinet cabinet_now : Stand Files) → (printer printer_now : Stand (List ℕ)) → End → Type 0
+CallEnds None cabinet cabinet_now printer printer_now end = (end ≡ Stopped status.Usage) × (cabinet_now ≡ cabinet) × (printer_now ≡ printer)
+CallEnds (Some call) cabinet cabinet_now printer printer_now end = Ends (steps_of false call) cabinet cabinet_now printer printer_now end
 
--- Whatever the cabinet tells: a command that isn't built is refused for that.
+-- The call ends, and then the line that it is owed is told.
+pub record Runs (call : Option (Command × List ℕ)) (cabinet cabinet_now : Stand Files) (printer printer_now : Stand (List ℕ)) (ended : Status) : Type 0 where
+  pub end : End
+  pub middle : Stand (List ℕ)
+  pub ends : CallEnds call cabinet cabinet_now printer middle end
+  pub tells : Tells end middle printer_now
+  pub status : ended ≡ status_in end
+
+-- A command that isn't built is refused for that.
 abbrev pub IsUnbuilt : Option (Command × List ℕ) → Status → Type 0
 IsUnbuilt None ended = Unit {0}
 IsUnbuilt (Some call) ended = is_built call.0 ≡ false → ended ≡ status.Refused (NotBuilt call.0)
-
--- By what was printed.
-abbrev pub IsPrinted : Option (Command × List ℕ) → Option Files → (before now : ℕ) → List ℕ → Option (List ℕ) → Status → Type 0
-IsPrinted None files before now text told ended = TellsLines (status_lines ended) before now text told
-IsPrinted (Some call) files before now text told ended = Prints (steps_of call) files before now text told ended
-
--- What an accepted input comes to where no count rose: Ok, or want of memory.
-abbrev pub IsComplete : Option (Command × List ℕ) → Option Files → (before now printer_before printer : ℕ) → Status → Type 0
-IsComplete None told before now printer_before printer ended = Unit {0}
-IsComplete (Some call) told before now printer_before printer ended =
-    (files : Files) (work : Work) → told ≡ Some files → steps_of call (reads_of files) ≡ accepted work → ¬ Rose before now → ¬ Rose printer_before printer
-    → (ended ≡ status.Ok) ⊎ (ended ≡ status.OutOfMemory)
-
--- how a call ends before the status's own line is printed
-abbrev pub CallEnds : Option (Command × List ℕ) → (files left : Option Files) → (before now : ℕ) → (bytes shown : Option (List ℕ)) → (printer_before printer : ℕ) → Status → Type 0
-CallEnds None files left before now bytes shown printer_before printer ended =
-    (ended ≡ status.Usage) × (left ≡ files) × (now ≡ before) × (shown ≡ bytes) × (printer ≡ printer_before)
-CallEnds (Some call) files left before now bytes shown printer_before printer ended =
-    Ends (steps_of call) files left before now bytes shown printer_before printer ended

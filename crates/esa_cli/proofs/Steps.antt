@@ -1,0 +1,109 @@
+-- What the steps of each command come to.
+use Rattle.std.proofs.Common.{◌≡◌, ℕ, Bool, true, false, List, Some, refl, sym, ap, ◌∙◌, arith}
+use Rattle.esa_lists.specs.Files.{Files}
+use Rattle.esa_job.specs.declared.command.Command.{Command}
+use Rattle.esa_job.specs.declared.command.Command.TheVariants as command
+use Rattle.esa_refusal.specs.declared.refusal.Refusal.TheVariants.{NotBuilt}
+use Rattle.esa_refusal.specs.declared.status.End.TheVariants.{Stopped}
+use Rattle.esa_refusal.specs.declared.status.Status.TheVariants as status
+use Rattle.esa_refusal.specs.declared.stop.Stop.TheVariants as stop
+use Rattle.esa_command.specs.Ends.{Ends}
+use Rattle.esa_command.specs.Stand.{Stand}
+use Rattle.esa_command.specs.Step.{Step, ◌>>=◌, accepted, refused, missing, Reads}
+use Rattle.esa_command.specs.Taking.{job_file, keys_file}
+use Rattle.esa_command.specs.Work.{Work}
+use Rattle.esa_command.proofs.Composition.{judged_at_once}
+use Rattle.esa_command.proofs.Ending.{ends_stop}
+use Rattle.esa_encoding.specs.Encode.{whole_job, reports_file, encode_steps, encode_asked, encode_keyed, encoded_work}
+use Rattle.esa_encoding.specs.Generate.{generate_steps, generated_by}
+use Rattle.esa_shuffling.specs.Batch.{gather_steps, batch_steps, gathered_work}
+use Rattle.esa_shuffling.specs.Plan.{plan_steps, plan_asked, plan_turned, foretold}
+use Rattle.esa_shuffling.specs.Shuffle.{turns_file, coins_file}
+use Rattle.esa_analysing.specs.Analyse.{forward_file, analyse_steps, analyse_asked, analyse_keyed, analysed}
+use Rattle.esa_analysing.specs.Histogram.{histogram_steps, histogram_work}
+use Rattle.esa_analysing.specs.Loading.{load_steps}
+use Rattle.esa_analysing.specs.Upgrade.{upgrade_steps, upgrade_work}
+use Rattle.esa_cli.specs.Plain.{is_built, steps_of}
+
+-- ---- the work of each command is to end well
+
+well_made : (made work : Work) → made.ended ≡ status.Ok → accepted made ≡ accepted work → work.ended ≡ status.Ok
+well_made made work well is = let same : made ≡ work = cc in ap (λ w. w.ended) (sym same) ∙ well
+
+well_then : {A : Type 0} (step : Step A) (next : A → Step Work) (work : Work) → ((value : A) → next value ≡ accepted work → work.ended ≡ status.Ok) → (step >>= next) ≡ accepted work → work.ended ≡ status.Ok
+well_then (accepted value) next work each is = each value is
+well_then (refused refusal) next work each is = cc
+well_then (missing source) next work each is = cc
+
+encode_well : (crew : Bool) (name : List ℕ) (read : Reads) (work : Work) → encode_steps crew name read ≡ accepted work → work.ended ≡ status.Ok
+unfolding encode_steps
+encode_well crew name read work is =
+    well_then (whole_job crew name read) (encode_asked read) work
+    (λ job. well_then (keys_file command.Encode false job read) (encode_keyed job read) work
+    (λ ring. well_then (reports_file job ring read) (encoded_work job) work (λ made. well_made _ work refl))) is
+
+analyse_well : (crew : Bool) (name : List ℕ) (read : Reads) (work : Work) → analyse_steps crew name read ≡ accepted work → work.ended ≡ status.Ok
+unfolding analyse_steps
+analyse_well crew name read work is =
+    well_then (job_file command.Analyse crew name read) (analyse_asked read) work
+    (λ job. well_then (keys_file command.Analyse false job read) (analyse_keyed job read) work
+    (λ ring. well_then (forward_file command.Analyse job read) (λ forwarded. accepted (analysed job ring forwarded)) work (λ made. well_made _ work refl))) is
+
+plan_well : (crew : Bool) (name : List ℕ) (read : Reads) (work : Work) → plan_steps crew name read ≡ accepted work → work.ended ≡ status.Ok
+unfolding plan_steps
+plan_well crew name read work is =
+    well_then (job_file command.Plan crew name read) (plan_asked read) work
+    (λ job. well_then (turns_file command.Plan job read) (plan_turned job read) work
+    (λ turns. well_then (coins_file command.Plan job read) (foretold job turns) work (λ draws. well_made _ work refl))) is
+
+pub steps_well : (crew : Bool) (call : Command × List ℕ) (read : Reads) (work : Work) → steps_of crew call read ≡ accepted work → work.ended ≡ status.Ok
+steps_well crew (command.Gen, name) read work is = well_then (job_file command.Gen crew name read) (λ job. accepted (generated_by job)) work (λ job. well_made _ work refl) is
+steps_well crew (command.Encode, name) read work is = encode_well crew name read work is
+steps_well crew (command.Batch, name) read work is = well_then (gather_steps crew name read) (λ all. accepted (gathered_work all)) work (λ all. well_made _ work refl) is
+steps_well crew (command.Intake, name) read work is = cc
+steps_well crew (command.Shuffle, name) read work is = cc
+steps_well crew (command.Run, name) read work is = cc
+steps_well crew (command.Relay, name) read work is = cc
+steps_well crew (command.Analyse, name) read work is = analyse_well crew name read work is
+steps_well crew (command.Histogram, name) read work is = well_then (load_steps command.Histogram crew name read) (λ all. accepted (histogram_work all)) work (λ all. well_made _ work refl) is
+steps_well crew (command.Upgrade, name) read work is = well_then (load_steps command.Upgrade crew name read) (λ all. accepted (upgrade_work all)) work (λ all. well_made _ work refl) is
+steps_well crew (command.Recover, name) read work is = cc
+steps_well crew (command.Plan, name) read work is = plan_well crew name read work is
+steps_well crew (command.Audit, name) read work is = cc
+
+-- ---- a command that isn't built
+
+pub not_built : (crew : Bool) (call : Command × List ℕ) → is_built call.0 ≡ false → (read : Reads) → steps_of crew call read ≡ refused (NotBuilt call.0)
+not_built crew (command.Gen, name) is read = cc
+not_built crew (command.Encode, name) is read = cc
+not_built crew (command.Batch, name) is read = cc
+not_built crew (command.Intake, name) is read = refl
+not_built crew (command.Shuffle, name) is read = refl
+not_built crew (command.Run, name) is read = refl
+not_built crew (command.Relay, name) is read = refl
+not_built crew (command.Analyse, name) is read = cc
+not_built crew (command.Histogram, name) is read = cc
+not_built crew (command.Upgrade, name) is read = cc
+not_built crew (command.Recover, name) is read = refl
+not_built crew (command.Plan, name) is read = cc
+not_built crew (command.Audit, name) is read = refl
+
+pub ends_unbuilt : (crew : Bool) (call : Command × List ℕ) (cabinet : Stand Files) (printer : Stand (List ℕ)) → is_built call.0 ≡ false → Ends (steps_of crew call) cabinet cabinet printer printer (Stopped (status.Refused (NotBuilt call.0)))
+ends_unbuilt crew call cabinet printer is =
+    ends_stop (λ (work : Work). work) (steps_of crew call) cabinet cabinet printer (stop.Refused (NotBuilt call.0)) (status.Refused (NotBuilt call.0)) refl
+    (judged_at_once 0 6 (λ (work : Work). work) (steps_of crew call) cabinet (NotBuilt call.0) (omega arith) (not_built crew call is) tt)
+
+pub others_unbuilt : (c : Command) → (c ≡ command.Gen → ⊥) → (c ≡ command.Encode → ⊥) → (c ≡ command.Batch → ⊥) → (c ≡ command.Analyse → ⊥) → (c ≡ command.Histogram → ⊥) → (c ≡ command.Upgrade → ⊥) → (c ≡ command.Plan → ⊥) → is_built c ≡ false
+others_unbuilt command.Gen g e b a h u p = absurd (g refl)
+others_unbuilt command.Encode g e b a h u p = absurd (e refl)
+others_unbuilt command.Batch g e b a h u p = absurd (b refl)
+others_unbuilt command.Intake g e b a h u p = refl
+others_unbuilt command.Shuffle g e b a h u p = refl
+others_unbuilt command.Run g e b a h u p = refl
+others_unbuilt command.Relay g e b a h u p = refl
+others_unbuilt command.Analyse g e b a h u p = absurd (a refl)
+others_unbuilt command.Histogram g e b a h u p = absurd (h refl)
+others_unbuilt command.Upgrade g e b a h u p = absurd (u refl)
+others_unbuilt command.Recover g e b a h u p = refl
+others_unbuilt command.Plan g e b a h u p = absurd (p refl)
+others_unbuilt command.Audit g e b a h u p = refl

@@ -1,5 +1,0 @@
-use Rattle.std.proofs.Common.{append_assoc}
-use Rattle.esa_cli.proofs.refusal.add_forward.Goals as goal
-
-pub returns-in-BadVersion : goal.returns-in-BadVersion
-returns-in-BadVersion c = rw (c.word-in-BadVersion.ensures, c.word.ensures, c.in-BadVersion.is, append_assoc)
