@@ -4,12 +4,11 @@ use Rattle.std.specs.Prelude.{slice_index_or, ◌==◌, if◌then◌else◌}
 use Rattle.std.proofs.Math.Nat.{suc-mul, mul-le-mul_right}
 use Rattle.std.proofs.lemmas.List.{length-append, length-map}
 use Rattle.std.proofs.lemmas.List.FromFn.{length-range_with_len}
-use Rattle.esa_device.specs.Logs.{slot_number}
 use Rattle.esa_laws.proofs.HistoryLaws.{begun-worker, latest-worker, length-lists, lists-worker}
 use Rattle.esa_laws.proofs.LengthLaws.{attempts-le, spread-le}
 use Rattle.esa_outside.specs.Cause.{Rose}
 use Rattle.esa_params.specs.Sizes.{Sizes, below}
-use Rattle.esa_params.specs.Slots.{at, greatest_trace}
+use Rattle.esa_params.specs.Slots.{at, greatest_trace, slot_number}
 use Rattle.esa_params.specs.declared.slot.Access.{Access}
 use Rattle.esa_params.specs.declared.slot.Op.TheVariants.{Read as Reads}
 use Rattle.esa_spec.specs.Draws.{Draw}
