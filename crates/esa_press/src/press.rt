@@ -82,6 +82,13 @@ impl Press {
         })
     }
 
+    /// The plan.
+    pub(crate) fn plan(&self) -> Plan
+        ensures { result ≡ self.now.plan }
+    {
+        self.plan
+    }
+
     /// Drains a target: moves what is queued for it to a tail, and seals and writes the tail.
     pub(crate) fn drain_one<V: Device, G: Told>(
         &mut self,
@@ -97,6 +104,7 @@ impl Press {
         requires spelled { All (IsSpelled (item_length floor.old.plan.form)) (queue_at floor.old.stash target) }
         ensures answer { DrainAnswer V.told V.faults V.last_call attempt target floor.old floor.new self.old.tails self.new.tails result }
         ensures others { self.new ≡ record self.old { tails = self.new.tails } }
+        ensures each { length self.old.tails ≡ self.old.plan.b }
     {
         drain_some(
             floor,
