@@ -1,3 +1,4 @@
+pub mod Draining
 pub mod Fetching
 pub mod Moving
 pub mod Opened

@@ -1,16 +1,20 @@
 -- The drain of a target: what it makes of the floor and of the press.
-use Rattle.std.specs.Prelude.{◌≡◌, ℕ, ◌<◌, ◌≤◌, List, length, slice_set, Option, Result, Ok, Err}
+use Rattle.std.specs.Prelude.{◌≡◌, ℕ, ◌+◌, ◌<◌, ◌≤◌, List, ◌++◌, length, map, find, slice_set, Option, Some, None, Result, Ok, Err}
+use Rattle.esa_device.specs.Logs.{Took}
 use Rattle.esa_device.specs.Recording.{Recorded}
-use Rattle.esa_envelope.specs.declared.keys.Keys.{Keys}
 use Rattle.esa_floor.specs.Parts.{Parts}
-use Rattle.esa_params.specs.Sizes.{Sizes}
-use Rattle.esa_params.specs.Slots.{at}
+use Rattle.esa_outside.specs.Cause.{Rose}
+use Rattle.esa_params.specs.Sizes.{below}
+use Rattle.esa_params.specs.Slots.{at, number_of}
 use Rattle.esa_params.specs.declared.slot.Op.{Op}
 use Rattle.esa_params.specs.declared.slot.Region.TheVariants.{Tail}
-use Rattle.esa_report.specs.declared.item.Item.{Item}
+use Rattle.esa_spec.specs.Draws.{Draw}
+use Rattle.esa_spec.specs.Traces.{written_tail}
+use Rattle.esa_spec.specs.Verdicts.{is_left, left}
 use Rattle.esa_spec.specs.declared.event.Verdict.TheVariants.{StashLeft}
 use Rattle.esa_stash.specs.Stash.{queue_at, without}
 use Rattle.esa_vault.specs.Traffic.{IsWritten}
+use Rattle.esa_vault.specs.declared.fault.VaultFault.TheVariants.{Device, Tampered}
 use Rattle.esa_press.specs.Records.{sealed_records}
 use Rattle.esa_press.specs.declared.halt.Halt.{Halt}
 use Rattle.esa_press.specs.declared.halt.Halt.TheVariants.{Verdict, Fault}
@@ -33,3 +37,31 @@ DrainAnswer told faults last_call attempt i old new tails noted (Err (Verdict v)
 DrainAnswer told faults last_call attempt i old new tails noted (Err (Fault fault)) =
     (length (queue_at old.stash i) ≤ old.plan.k) × (new ≡ spilled old i new.recorder) × (noted ≡ slice_set tails i (length (queue_at old.stash i)))
     × IsWritten {T = Unit {0}} told faults last_call old.plan (at Tail i) attempt (tail_block old attempt i) old.recorder new.recorder (Err fault)
+
+-- the first t targets are drained: none has left more than a tail, and their tails are written. Nothing else has changed
+pub record AreDrained {V : Type 0} (faults : V → ℕ) (attempt t : ℕ) (old new : Parts V) : Type 0 where
+  pub few : (i : ℕ) → i < t → length (queue_at old.stash i) ≤ old.plan.k
+  pub others : new ≡ record old { recorder = new.recorder; stash = new.stash }
+  pub waits : (i : ℕ) → t ≤ i → queue_at new.stash i ≡ queue_at old.stash i
+  pub trace : new.recorder.trace ≡ old.recorder.trace ++ map (written_tail old.plan attempt) (below t)
+  pub room : old.recorder.room ≡ new.recorder.room + t
+  pub ready : new.recorder.plan ≡ old.recorder.plan
+  pub calm : faults new.recorder.device ≡ faults old.recorder.device
+  pub stored : (i : ℕ) → i < t → Took old.plan (number_of old.plan (at Tail i)) (tail_block old attempt i) new.recorder.log
+
+-- a write of the tail of the target i failed, which is the last access, where the targets before it are drained
+pub record FailsAt {V : Type 0} (faults : V → ℕ) (attempt i number : ℕ) (old new : Parts V) : Type 0 where
+  pub slot : number ≡ number_of old.plan (at Tail i)
+  pub trace : new.recorder.trace ≡ old.recorder.trace ++ map (written_tail old.plan attempt) (below (i + 1))
+  pub others : new ≡ record old { recorder = new.recorder; stash = new.stash }
+  pub cause : Rose (faults old.recorder.device) (faults new.recorder.device)
+
+-- how a drain ends, by the target for which too much is left: the tails are written up to the one before it. A write may fail
+-- before
+abbrev pub DrainEnd : {V T : Type 0} → (V → ℕ) → Draw → List ℕ → ℕ → Parts V → Parts V → Result T Halt → Type 0
+DrainEnd faults d o attempt old new (Ok done) = (left old.plan d o ≡ None) × AreDrained faults attempt old.plan.b old new
+DrainEnd faults d o attempt old new (Err (Verdict v)) =
+    (i : ℕ) × (left old.plan d o ≡ Some i) × (v ≡ StashLeft i) × AreDrained faults attempt i old new
+DrainEnd faults d o attempt old new (Err (Fault (Device number))) =
+    (i : ℕ) × (i < old.plan.b) × (find (is_left old.plan d o) (below (i + 1)) ≡ None) × FailsAt faults attempt i number old new
+DrainEnd faults d o attempt old new (Err (Fault (Tampered number))) = ⊥

@@ -2,3 +2,4 @@ pub mod Drained
 pub mod Fetched
 pub mod Pressed
 pub mod Records
+pub mod Stepped

@@ -6,6 +6,7 @@
 //! Only `make` takes memory.
 #![tactic(auto)]
 
+mod drain;
 mod fetch;
 mod halt;
 mod import;

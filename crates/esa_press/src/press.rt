@@ -1,9 +1,11 @@
 //! A press: the window and the buffers of the drain and the compression, and the single steps of both.
 
-ghost use Rattle.std.specs.Prelude.{◌≡◌, ℕ, ◌+◌, ◌*◌, ◌<◌, ◌≤◌, ◌++◌, List, [], Some, All, IfOk, OnOk, OnErr, length, min, slice_index, sum};
+ghost use Rattle.std.specs.Prelude.{◌≡◌, ℕ, ◌+◌, ◌*◌, ◌<◌, ◌≤◌, ◌++◌, List, [], ◌∷◌, Some, All, IfOk, OnOk, OnErr, length, map, min, slice_index, sum};
 ghost use Rattle.esa_compress.specs.Held.{held_in};
 ghost use Rattle.esa_device.specs.Logs.{IsFaithful};
+ghost use Rattle.esa_floor.specs.Parts.{count_at};
 ghost use Rattle.esa_params.specs.Sizes as sizes;
+ghost use Rattle.esa_params.specs.Sizes.{below};
 ghost use Rattle.esa_params.specs.Slots.{item_length};
 ghost use Rattle.esa_report.specs.declared.item.Item.{Item};
 ghost use Rattle.esa_stash.specs.Stash.{queue_at};
@@ -12,6 +14,7 @@ ghost use Rattle.esa_press.specs.Drained.{DrainAnswer};
 ghost use Rattle.esa_press.specs.Fetched.{AreStored};
 ghost use Rattle.esa_press.specs.Pressed.{ImportAnswer, PutAnswer};
 ghost use Rattle.esa_press.specs.Records.{imported_items};
+ghost use Rattle.esa_press.specs.Stepped.{parts_counted};
 
 use crate::halt::Halt;
 use crate::import::fetch_import;
@@ -82,6 +85,13 @@ impl Press {
         })
     }
 
+    /// The plan.
+    pub(crate) fn plan(&self) -> Plan
+        ensures { result ≡ self.now.plan }
+    {
+        self.plan
+    }
+
     /// Drains a target: moves what is queued for it to a tail, and seals and writes the tail.
     pub(crate) fn drain_one<V: Device, G: Told>(
         &mut self,
@@ -97,6 +107,7 @@ impl Press {
         requires spelled { All (IsSpelled (item_length floor.old.plan.form)) (queue_at floor.old.stash target) }
         ensures answer { DrainAnswer V.told V.faults V.last_call attempt target floor.old floor.new self.old.tails self.new.tails result }
         ensures others { self.new ≡ record self.old { tails = self.new.tails } }
+        ensures each { length self.old.tails ≡ self.old.plan.b }
     {
         drain_some(
             floor,
@@ -109,6 +120,16 @@ impl Press {
             &mut self.tail.text,
             &mut self.tail.sealed,
         )
+    }
+
+    /// Notes how many items each part of the import of a target has.
+    pub(crate) fn count<V: Device, G: Told>(&mut self, floor: &Floor<V, G>, target: u32)
+        requires plan { self.old.plan ≡ floor.now.plan }
+        requires target { target < floor.now.plan.b }
+        ensures { self.new ≡ record self.old { counts = parts_counted self.old.plan floor.now.counts self.old.tails target } }
+    {
+        let tail = self.tails[target as usize];
+        count_parts(floor, &self.plan, target, tail, &mut self.counts);
     }
 
     /// Imports a target: reads its chunks and its tail, and moves their items into the window, in the order of the target and
@@ -179,6 +200,25 @@ impl Press {
             &mut self.output.sealed,
         )
     }
+}
+
+/// Writes how many items each chunk for a target has, and behind these how many its tail has.
+fn count_parts<V: Device, G: Told>(
+    floor: &Floor<V, G>,
+    plan: &Plan,
+    target: u32,
+    tail: u32,
+    counts: &mut [u32],
+)
+    requires plan { plan.now ≡ floor.now.plan }
+    requires target { target < floor.now.plan.b }
+    requires counts { length counts.old ≡ plan.now.b + 1 }
+    ensures { counts.new ≡ map (λ j. count_at plan.now.b floor.now.counts j target) (below plan.now.b) ++ tail ∷ [] }
+{
+    for bucket in 0..plan.b() {
+        counts[bucket as usize] = floor.count(bucket, target);
+    }
+    counts[plan.b() as usize] = tail;
 }
 
 /// Drains a target over the buffers.

@@ -1,0 +1,39 @@
+//! The drain: what is left in the stash is written as tails.
+
+ghost use Rattle.std.specs.Prelude.{◌≡◌, ℕ, ◌*◌, ◌<◌, ◌≤◌, Some, OnOk, length, slice_index};
+ghost use Rattle.esa_floor.specs.Standing.{IsSpread, turns_made};
+ghost use Rattle.esa_spec.specs.Turns.{order};
+ghost use Rattle.esa_stash.specs.Stash.{queue_at};
+ghost use Rattle.esa_press.specs.Drained.{DrainEnd};
+
+use crate::halt::Halt;
+use crate::press::Press;
+use esa_device::Device;
+use esa_floor::{Floor, Told};
+
+impl Press {
+    /// Writes the tail of each target, up to the first target for which too much is left. All chunks of the attempt were
+    /// written. How many items each tail has is noted.
+    pub fn drain<V: Device, G: Told>(
+        &mut self,
+        floor: &mut Floor<V, G>,
+        attempt: u32,
+    ) -> Result<(), Halt>
+        requires plan { self.old.plan ≡ floor.old.plan }
+        requires run { self.old.run ≡ floor.old.run }
+        requires ready { floor.old.recorder.plan ≡ Some floor.old.plan }
+        requires room { floor.old.plan.b ≤ floor.old.recorder.room }
+        requires spread { IsSpread floor.old.plan (G.draws attempt) (turns_made floor.old) floor.old.stash floor.old.counts floor.old.counted }
+        requires all { floor.old.counted.writes ≡ floor.old.plan.b * floor.old.plan.b }
+        ensures ends { DrainEnd V.faults (G.draws attempt) (order floor.old.plan.b (turns_made floor.old)) attempt floor.old floor.new result }
+        ensures noted { OnOk result ((i : ℕ) → i < floor.old.plan.b → slice_index self.new.tails i ≡ length (queue_at floor.old.stash i)) }
+        ensures others { self.new ≡ record self.old { tails = self.new.tails } }
+    {
+        for target in 0..self.plan().b() {
+            if let Err(halt) = self.drain_one(floor, attempt, target) {
+                return Err(halt);
+            }
+        }
+        Ok(())
+    }
+}
