@@ -13,6 +13,7 @@ mod device;
 mod encode;
 mod forecast;
 mod forward;
+mod shares;
 mod stash;
 mod threshold;
 mod turnstile;
@@ -41,6 +42,7 @@ fn main(rt: HostRuntime) -> Result<()> {
         encode::small(&rt, rt.alloc())?;
         vault::small(&rt)?;
         threshold::small(&rt)?;
+        shares::small(&rt)?;
         forecast::small(&rt, rt.alloc())?;
         return turnstile::small(&rt, rt.alloc());
     };
@@ -80,6 +82,13 @@ fn main(rt: HostRuntime) -> Result<()> {
         };
         return threshold::measure(&rt, work, &load);
     }
+    if let Some(work) = shares_work(module.as_str()) {
+        let load = shares::Load {
+            values: small(size)?,
+            t: u8::try_from(number(words.next())?).context("too many shares")?,
+        };
+        return shares::measure(&rt, work, &load);
+    }
     if module.as_str() == "device" {
         return device::write_and_read(&rt);
     }
@@ -108,6 +117,18 @@ fn threshold_work(module: &str) -> Option<Work> {
     match module {
         "threshold" => Some(Work::Threshold),
         "threshold-sort" => Some(Work::Sort),
+        _ => None,
+    }
+}
+
+/// What a word asks for of shares.
+fn shares_work(module: &str) -> Option<shares::Work> {
+    match module {
+        "shares-values" => Some(shares::Work::EncodeValues),
+        "shares-encode" => Some(shares::Work::EncodeShares),
+        "shares-make" => Some(shares::Work::Make),
+        "shares-copy" => Some(shares::Work::Copy),
+        "shares-recover" => Some(shares::Work::Recover),
         _ => None,
     }
 }

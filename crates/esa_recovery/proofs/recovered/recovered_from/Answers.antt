@@ -1,11 +1,10 @@
-use Rattle.std.proofs.Common.{◌≡◌, ℕ, ◌+◌, ◌≤◌, List, length, sym, ap, ◌∙◌, subst, arith}
+use Rattle.std.proofs.Common.{ℕ, ◌+◌, ◌≤◌, List, length, sym, ap, ◌∙◌, subst, arith}
 use Rattle.std.specs.Prelude.{All}
 use Rattle.std.proofs.lemmas.List.{length-map}
 use Rattle.esa_analyser.specs.Rows.{database_bytes}
 use Rattle.esa_analyser.proofs.DbLaws.{short_for_two}
 use Rattle.esa_recovery.specs.Meaning.{meaning}
 use Rattle.esa_recovery.specs.Recovered.{recovered_database}
-use Rattle.esa_recovery.specs.Sums.{plain}
 use Rattle.esa_recovery.proofs.RecoveredLaws.{IsDatabase-recovered, lost-le}
 use Rattle.esa_recovery.proofs.recovered.recovered_from.Goals as goal
 
