@@ -55,3 +55,8 @@ added_by gathered number (Err cause) = Err (Line (record { line = number; cause 
 abbrev pub added_in : Gathered → List ℕ → ℕ → Result Gathered AddRefused
 added_in gathered line number =
     if nat_lt (length gathered.list) 262144 then added_by gathered number (envelope_in gathered.form line) else Err (TooMany (262144 + 1))
+
+-- after an envelope, unless as many are held as a batch has
+abbrev pub put_in : Gathered → List ℕ → Result Gathered AddRefused
+put_in gathered envelope =
+    if nat_lt (length gathered.list) 262144 then Ok (record gathered { list = gathered.list ++ envelope ∷ [] }) else Err (TooMany (262144 + 1))

@@ -2,9 +2,10 @@
 
 ghost use Rattle.std.specs.Prelude.{◌≡◌, ◌⊎◌, ◌↔◌, ◌≤◌, ◌<◌, ◌^◌, ℕ, List, [], Ok, Err, IsErr, IfOk, IfErr, OnOk, OnErr, MatchResult, length, vec_capacity};
 ghost use Rattle.std.specs.List.Sorted.{IsPermutation};
+ghost use Rattle.esa_params.specs.Form.{envelope_length};
 ghost use Rattle.esa_batcher.specs.declared.refused.AddRefused.TheVariants as add;
 ghost use Rattle.esa_batcher.specs.declared.refused.BatchRefused.TheVariants as batch;
-ghost use Rattle.esa_batcher.specs.Adding.{Gathered, text_in, added_in};
+ghost use Rattle.esa_batcher.specs.Adding.{Gathered, text_in, added_in, put_in, envelope_in};
 ghost use Rattle.esa_batcher.specs.Batched.{IsBatch};
 ghost use Rattle.esa_batcher.specs.Finishing.{epoch_of, batch_of};
 
@@ -13,6 +14,7 @@ use crate::batch::Batch;
 use crate::digits::NotAdded;
 use crate::envelopes::Envelopes;
 use crate::refused::{AddRefused, BatchRefused};
+use esa_bytes::hex_into;
 use esa_line::{LineCause, LineRefused, head_cause, head_in};
 use esa_params::{Form, MOST_RECORDS};
 use std::alloc::{AllocError, Global};
@@ -48,6 +50,38 @@ fn text_of(line: &[u8]) -> Result<&[u8], LineCause>
     match head_cause(line, &head) {
         None => Ok(&line[head.length..]),
         Some(cause) => Err(cause),
+    }
+}
+
+/// Writes the envelope of a submission line to `out`, or answers the line's first cause. The line's number is counted
+/// from 1. It takes no memory.
+pub fn envelope_of(
+    form: Form,
+    line: &[u8],
+    number: u64,
+    out: &mut [u8],
+) -> Result<(), LineRefused>
+    requires { length out.old ≡ envelope_length form }
+    ensures envelope { OnOk result (envelope_in form line.now ≡ Ok out.new) }
+    ensures refused { IfErr result (λ refused. envelope_in form line.now ≡ Err refused.cause) }
+    ensures number { IfErr result (λ refused. refused.line ≡ number) }
+    ensures same_length { length out.new ≡ length out.old }
+{
+    match text_of(line) {
+        Ok(text) => {
+            if hex_into(text, out) {
+                Ok(())
+            } else {
+                Err(LineRefused {
+                    line: number,
+                    cause: LineCause::BadHex,
+                })
+            }
+        }
+        Err(cause) => Err(LineRefused {
+            line: number,
+            cause,
+        }),
     }
 }
 
@@ -103,6 +137,26 @@ impl Batcher {
             Err(NotAdded::BadHex) => Err(refused_line(number, LineCause::BadHex)),
             Err(NotAdded::OutOfMemory) => Err(AddRefused::OutOfMemory),
         }
+    }
+
+    /// Adds an envelope of the form.
+    ///
+    /// It takes memory only where `room` envelopes or more are held.
+    pub fn put(&mut self, envelope: &[u8]) -> Result<(), AddRefused>
+        requires { length envelope.now ≡ envelope_length self.old.form }
+        ensures added { OnOk result (put_in self.old envelope.now ≡ Ok self.new) }
+        ensures refused { IfErr result (λ refused. (refused ≡ add.OutOfMemory) ⊎ (put_in self.old envelope.now ≡ Err refused)) }
+        ensures unchanged { OnErr result (self.new ≡ self.old) }
+        ensures memory { result ≡ Err add.OutOfMemory → self.old.room ≤ length self.old.list }
+    {
+        if self.envelopes.len() >= MOST_RECORDS as usize {
+            return Err(AddRefused::TooMany {
+                n: u64::from(MOST_RECORDS) + 1,
+            });
+        }
+        reserve_key(&mut self.keys, self.envelopes.len())?;
+        self.envelopes.put(envelope)?;
+        Ok(())
     }
 
     /// The batch of the envelopes under a key epoch, which isn't used in form One. It takes no memory.

@@ -1,11 +1,12 @@
 //! Envelopes in hexadecimal digits.
 
-ghost use Rattle.std.specs.Prelude.{◌≡◌, ◌≤◌, IfSome, length, vec_capacity};
+ghost use Rattle.std.specs.Prelude.{◌≡◌, ◌≤◌, ◌++◌, ◌∷◌, [], IfSome, OnOk, OnErr, length, vec_capacity};
 ghost use Rattle.esa_bytes.specs.Hexadecimal.{hex_in};
 ghost use Rattle.esa_header.specs.Pieces.{HaveLength};
 ghost use Rattle.esa_batcher.specs.Adding.{AddsHex};
 
 use esa_bytes::hex_into;
+use std::alloc::AllocError;
 
 /// Why a text was not added as an envelope.
 #[derive(Clone, Copy, PartialEq, Eq, Debug)]
@@ -46,4 +47,21 @@ pub(crate) fn push_decoded<const P: usize>(
         },
         None => Err(NotAdded::BadHex),
     }
+}
+
+/// Adds a copy of the envelope.
+pub(crate) fn push_copied<const P: usize>(
+    list: &mut Vec<[u8; P]>,
+    envelope: &[u8],
+) -> Result<(), AllocError>
+    requires size { length envelope.now ≡ P }
+    ensures added { OnOk result (list.new.items ≡ list.old.items ++ envelope.now ∷ []) }
+    ensures unchanged { OnErr result (list.new.items ≡ list.old.items) }
+    ensures full { OnErr result (vec_capacity list.old ≤ length list.old.items) }
+    ensures capacity { vec_capacity list.old ≤ vec_capacity list.new }
+{
+    let mut copy = [0; P];
+    copy.copy_from_slice(envelope);
+    list.push(copy)?;
+    Ok(())
 }

@@ -1,6 +1,6 @@
 //! Outer envelopes of one form.
 
-ghost use Rattle.std.specs.Prelude.{◌≡◌, ◌*◌, ◌<◌, ◌≤◌, ◌^◌, Err, ℕ, length, vec_capacity, slice_index_or, [], IfOk};
+ghost use Rattle.std.specs.Prelude.{OnOk, OnErr, ◌++◌, ◌∷◌, ◌≡◌, ◌*◌, ◌<◌, ◌≤◌, ◌^◌, Err, ℕ, length, vec_capacity, slice_index_or, [], IfOk};
 ghost use Rattle.std.specs.List.{concat};
 ghost use Rattle.esa_lists.specs.Ordered.{ordered};
 ghost use Rattle.esa_header.specs.Pieces.{pieces, HaveLength};
@@ -10,7 +10,7 @@ ghost use Rattle.esa_params.specs.Form.{envelope_length};
 ghost use Rattle.esa_batcher.specs.Envelopes.{list_of, form_of, capacity_of};
 
 use crate::arrange::{Key, sort_by_keys};
-use crate::digits::{NotAdded, push_decoded};
+use crate::digits::{NotAdded, push_copied, push_decoded};
 use esa_params::Form;
 use std::alloc::{AllocError, Global};
 
@@ -57,6 +57,21 @@ impl Envelopes {
         match self {
             Envelopes::One(list) => push_decoded(list, text),
             Envelopes::Two(list) => push_decoded(list, text),
+        }
+    }
+
+    /// Adds an envelope.
+    pub(crate) fn put(&mut self, envelope: &[u8]) -> Result<(), AllocError>
+        requires size { length envelope.now ≡ envelope_length (form_of self.old) }
+        ensures added { OnOk result (list_of self.new ≡ list_of self.old ++ envelope.now ∷ []) }
+        ensures unchanged { OnErr result (list_of self.new ≡ list_of self.old) }
+        ensures form { form_of self.new ≡ form_of self.old }
+        ensures full { OnErr result (capacity_of self.old ≤ length (list_of self.old)) }
+        ensures capacity { capacity_of self.old ≤ capacity_of self.new }
+    {
+        match self {
+            Envelopes::One(list) => push_copied(list, envelope),
+            Envelopes::Two(list) => push_copied(list, envelope),
         }
     }
 

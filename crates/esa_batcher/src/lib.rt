@@ -21,7 +21,7 @@ mod scan;
 mod write;
 
 pub use batch::Batch;
-pub use batcher::Batcher;
+pub use batcher::{Batcher, envelope_of};
 pub use file::{BatchFile, Standing};
 pub use laws::same_envelopes_same_file;
 pub use lines::gather;

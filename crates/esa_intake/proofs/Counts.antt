@@ -1,5 +1,5 @@
 -- A log is the parts of all numbers together.
-use Rattle.std.proofs.Common.{◌≡◌, ◌≢◌, ℕ, zero, suc, ◌+◌, ◌<◌, ◌≤◌, ◌==◌, Bool, true, false, true≢false, cond, List, [], ◌∷◌, ◌++◌, length, map, get_or, sym, refl, ap, ◌∙◌, subst, arith}
+use Rattle.std.proofs.Common.{◌≡◌, ◌≢◌, ℕ, zero, suc, ◌+◌, ◌≤◌, ◌==◌, Bool, true, false, true≢false, cond, List, [], ◌∷◌, ◌++◌, length, map, sym, refl, ap, ◌∙◌, subst, arith}
 use Rattle.std.specs.Prelude.{All, nat_lt}
 use Rattle.std.specs.List.{filter, sum_by}
 use Rattle.std.specs.List.Sorted.{IsPermutation}
@@ -133,18 +133,18 @@ nothing_left hand later waiting left taken rest sees sees_later none none_later 
     let after = seen-closed later left sees_later none_later all_later one in
     let same : sum_by (λ (c : Closed). sum_by one c.put) later.closed ≡ sum_by (λ (c : Closed). sum_by one c.put) hand.closed = ap (λ closed. sum_by (λ (c : Closed). sum_by one c.put) closed) same_closed in
     nil_from_length left (omega (
-        arith,
-        before,
-        after,
-        same,
-        length-sum (envelopes sees.0),
-        length-sum (envelopes sees_later.0),
-        ap length sees.1,
-        ap length sees_later.1,
-        length-append hand.taken waiting,
-        length-append later.taken left,
-        ap length was,
-        ap length now,
-        length-append taken rest,
-        few,
-      ))
+      arith,
+      before,
+      after,
+      same,
+      length-sum (envelopes sees.0),
+      length-sum (envelopes sees_later.0),
+      ap length sees.1,
+      ap length sees_later.1,
+      length-append hand.taken waiting,
+      length-append later.taken left,
+      ap length was,
+      ap length now,
+      length-append taken rest,
+      few,
+    ))

@@ -1,6 +1,5 @@
 -- Each step of a pass keeps the rule.
-use Rattle.std.proofs.Common.{◌≡◌, ◌≢◌, ℕ, zero, suc, ◌+◌, ◌<◌, ◌≤◌, ◌==◌, true, false, true≢false, List, [], ◌∷◌, ◌++◌, length, map, set, get_or, sym, refl, ap, ◌∙◌, subst, ◌⊎◌, inl, inr, ⊎_elim, append_assoc, append-nil, arith}
-use Rattle.std.specs.Prelude.{All}
+use Rattle.std.proofs.Common.{◌≡◌, ◌≢◌, ℕ, zero, suc, ◌+◌, ◌<◌, ◌≤◌, ◌==◌, true, false, true≢false, List, [], ◌∷◌, ◌++◌, length, set, get_or, sym, refl, ap, ◌∙◌, subst, ◌⊎◌, inl, inr, ⊎_elim, append_assoc, append-nil, arith}
 use Rattle.std.specs.List.{filter}
 use Rattle.std.proofs.lemmas.List.{map-append, length-set, length-append}
 use Rattle.std.proofs.lemmas.List.Elements.{filter-append, All-push}
@@ -8,11 +7,11 @@ use Rattle.std.proofs.lemmas.Bool.Decides.{nat_tests}
 use mathlib.Core.Option.{some, some-injective, some-ne-none}
 use lib.ListN.{get_elem?}
 use Rattle.crossbeam_queue.specs.Fifo.{Pushes, Pops, Forks, Merges, Learns}
-use Rattle.crossbeam_queue.proofs.Lists.{at_set, at_snoc, set_else, at_longer}
+use Rattle.crossbeam_queue.proofs.Lists.{at_set, set_else}
 use Rattle.esa_intake.specs.declared.sealed.Sealed.{Sealed}
 use Rattle.esa_intake.specs.declared.hand.Hand.{Hand}
 use Rattle.esa_intake.specs.declared.hand.Closed.{Closed}
-use Rattle.esa_intake.specs.Keeping.{envelopes, put_by, first, with_sender, new_sender, with_closed, spent, with_put, with_taken, OwnLog, IsClosed, Knows, TakerLog, Kept, SenderSees, TakerSees}
+use Rattle.esa_intake.specs.Keeping.{envelopes, put_by, first, with_sender, new_sender, with_closed, spent, with_put, with_taken, OwnLog, IsClosed, Knows, Kept, SenderSees, TakerSees}
 
 -- what a push adds to each sender's part of the log
 put_by-own : (place : ℕ) (log : List (ℕ × Sealed)) (sealed : Sealed) → put_by place (log ++ (place, sealed) ∷ []) ≡ put_by place log ++ sealed ∷ []
@@ -61,23 +60,23 @@ puts n place hand sealed may waiting hands room kept at =
     let mine = kept.3 place hand at may in
     let inside = there hands place hand at in
     let own : OwnLog more (set hands place now) =
-        λ other u there_is may_too. ⊎_elim
-            (λ (is : (other ≡ place) × (now ≡ u)). (
-              ap (λ (h : Hand). h.number) (sym is.1) ∙ mine.0 ∙ sym is.0,
-              ap (λ (h : Hand). h.put) (sym is.1) ∙ ap (λ l. l ++ sealed ∷ []) mine.1 ∙ sym (put_by-own place log sealed) ∙ ap (λ q. put_by q more) (sym is.0),
-            ))
-            (λ (isnt : (other ≢ place) × (get_elem? hands other ≡ some u)).
-                let theirs = kept.3 other u isnt.1 may_too in (theirs.0, theirs.1 ∙ sym (put_by-other place other log sealed isnt.0)))
-            (at_set hands place other now u there_is) in
+    λ other u there_is may_too. ⊎_elim
+    (λ (is : (other ≡ place) × (now ≡ u)). (
+      ap (λ (h : Hand). h.number) (sym is.1) ∙ mine.0 ∙ sym is.0,
+      ap (λ (h : Hand). h.put) (sym is.1) ∙ ap (λ l. l ++ sealed ∷ []) mine.1 ∙ sym (put_by-own place log sealed) ∙ ap (λ q. put_by q more) (sym is.0),
+    ))
+    (λ (isnt : (other ≢ place) × (get_elem? hands other ≡ some u)).
+    let theirs = kept.3 other u isnt.1 may_too in (theirs.0, theirs.1 ∙ sym (put_by-other place other log sealed isnt.0)))
+    (at_set hands place other now u there_is) in
     let closed : (c : Closed) → IsClosed log hands c → IsClosed more (set hands place now) c =
-        λ c is.
-            let apart : c.number ≢ place = λ same. true≢false (sym may ∙ is.2 hand (ap (get_elem? hands) same ∙ at)) in (
-              is.0 ∙ sym (put_by-other place c.number log sealed apart),
-              omega (arith, is.1, length-set hands place now),
-              λ u there_is. is.2 u (sym (set_else hands place c.number now apart) ∙ there_is),
-            ) in
+    λ c is.
+    let apart : c.number ≢ place = λ same. true≢false (sym may ∙ is.2 hand (ap (get_elem? hands) same ∙ at)) in (
+      is.0 ∙ sym (put_by-other place c.number log sealed apart),
+      omega (arith, is.1, length-set hands place now),
+      λ u there_is. is.2 u (sym (set_else hands place c.number now apart) ∙ there_is),
+    ) in
     let step : (u : Hand) → Knows log taken hands u → Knows more taken (set hands place now) u =
-        λ u knows. (knows.0, length-set hands place now ∙ knows.1, λ k d below. closed (get_or u.closed k d) (knows.2 k d below)) in (
+    λ u knows. (knows.0, length-set hands place now ∙ knows.1, λ k d below. closed (get_or u.closed k d) (knows.2 k d below)) in (
       now,
       (
         more,
@@ -100,10 +99,10 @@ own_same : (log : List (ℕ × Sealed)) (hands : List Hand) (place : ℕ) (hand 
 own_same log hands place hand now at puts_same number_same put_same own = λ other u there_is may.
     ⊎_elim
     (λ (is : (other ≡ place) × (now ≡ u)).
-        let mine = own place hand at (sym puts_same ∙ ap (λ (h : Hand). h.puts) is.1 ∙ may) in (
-          ap (λ (h : Hand). h.number) (sym is.1) ∙ number_same ∙ mine.0 ∙ sym is.0,
-          ap (λ (h : Hand). h.put) (sym is.1) ∙ put_same ∙ mine.1 ∙ ap (λ q. put_by q log) (sym is.0),
-        ))
+    let mine = own place hand at (sym puts_same ∙ ap (λ (h : Hand). h.puts) is.1 ∙ may) in (
+      ap (λ (h : Hand). h.number) (sym is.1) ∙ number_same ∙ mine.0 ∙ sym is.0,
+      ap (λ (h : Hand). h.put) (sym is.1) ∙ put_same ∙ mine.1 ∙ ap (λ q. put_by q log) (sym is.0),
+    ))
     (λ (isnt : (other ≢ place) × (get_elem? hands other ≡ some u)). own other u isnt.1 may)
     (at_set hands place other now u there_is)
 
@@ -131,7 +130,7 @@ takes hand sealed waiting hands kept at =
         own_same log hands 0 hand now at refl refl refl kept.3,
         (λ u there_is. ⊎_elim
             (λ (is : (0 ≡ 0) × (now ≡ u)). subst (Knows log (taken ++ sealed ∷ []) (set hands 0 now)) is.1
-                (ap (λ l. l ++ sealed ∷ []) knows.0, length-set hands 0 now ∙ knows.1, λ k d below. closed_same log hands 0 hand now (get_or hand.closed k d) at refl (knows.2 k d below)))
+            (ap (λ l. l ++ sealed ∷ []) knows.0, length-set hands 0 now ∙ knows.1, λ k d below. closed_same log hands 0 hand now (get_or hand.closed k d) at refl (knows.2 k d below)))
             (λ (isnt : (0 ≢ 0) × (get_elem? hands 0 ≡ some u)). absurd (isnt.0 refl))
             (at_set hands 0 0 now u there_is)),
         λ number past. kept.5 number (omega (arith, length-set hands 0 now, past)),
@@ -151,27 +150,27 @@ forks hand waiting hands kept at =
     let long : length (now ++ right ∷ []) ≡ length hands + 1 = omega (arith, length-append now (right ∷ []), length-set hands 0 left) in
     let own_now = own_same log hands 0 hand left at refl refl refl kept.3 in
     let closed : (c : Closed) → IsClosed log hands c → IsClosed log (now ++ right ∷ []) c =
-        λ c is.
-            let was = closed_same log hands 0 hand left c at refl is in (
-              is.0,
-              omega (arith, is.1, long),
-              λ u there_is. ⊎_elim (was.2 u) (λ (last : (c.number ≡ length now) × (right ≡ u)). absurd (omega (arith, last.0, is.1, length-set hands 0 left))) (at_end now right u c.number there_is),
-            ) in (
+    λ c is.
+    let was = closed_same log hands 0 hand left c at refl is in (
+      is.0,
+      omega (arith, is.1, long),
+      λ u there_is. ⊎_elim (was.2 u) (λ (last : (c.number ≡ length now) × (right ≡ u)). absurd (omega (arith, last.0, is.1, length-set hands 0 left))) (at_end now right u c.number there_is),
+    ) in (
       log,
       taken,
       kept.2,
       (λ place u there_is may. ⊎_elim (λ before. own_now place u before may)
           (λ (last : (place ≡ length now) × (right ≡ u)).
-              let number : hand.senders + 1 ≡ place = omega (arith, last.0, length-set hands 0 left, knows.1) in (
-                ap (λ (h : Hand). h.number) (sym last.1) ∙ number,
-                ap (λ (h : Hand). h.put) (sym last.1) ∙ sym (kept.5 place (omega (arith, last.0, length-set hands 0 left))),
-              ))
+          let number : hand.senders + 1 ≡ place = omega (arith, last.0, length-set hands 0 left, knows.1) in (
+            ap (λ (h : Hand). h.number) (sym last.1) ∙ number,
+            ap (λ (h : Hand). h.put) (sym last.1) ∙ sym (kept.5 place (omega (arith, last.0, length-set hands 0 left))),
+          ))
           (at_end now right u place there_is)),
       (λ u there_is. ⊎_elim
           (λ before. ⊎_elim
-              (λ (is : (0 ≡ 0) × (left ≡ u)). subst (Knows log taken (now ++ right ∷ [])) is.1 (knows.0, omega (arith, long, knows.1), λ k d below. closed (get_or hand.closed k d) (knows.2 k d below)))
-              (λ (isnt : (0 ≢ 0) × (get_elem? hands 0 ≡ some u)). absurd (isnt.0 refl))
-              (at_set hands 0 0 left u before))
+          (λ (is : (0 ≡ 0) × (left ≡ u)). subst (Knows log taken (now ++ right ∷ [])) is.1 (knows.0, omega (arith, long, knows.1), λ k d below. closed (get_or hand.closed k d) (knows.2 k d below)))
+          (λ (isnt : (0 ≢ 0) × (get_elem? hands 0 ≡ some u)). absurd (isnt.0 refl))
+          (at_set hands 0 0 left u before))
           (λ (last : (0 ≡ length now) × (right ≡ u)). absurd (omega (arith, last.0, length-set hands 0 left, inside)))
           (at_end now right u 0 there_is)),
       λ number past. kept.5 number (omega (arith, long, past)),
@@ -190,14 +189,14 @@ merges hand place other may waiting hands kept at apart at_other =
     let long : length now ≡ length hands = length-set between place spent ∙ length-set hands 0 both in
     let own_between = own_same log hands 0 hand both at refl refl refl kept.3 in
     let gone : (number : ℕ) → number ≡ place → (u : Hand) → get_elem? now number ≡ some u → u.puts ≡ false =
-        λ number same u there_is. ⊎_elim (λ (mine : (number ≡ place) × (spent ≡ u)). ap (λ (h : Hand). h.puts) (sym mine.1)) (λ (isnt : (number ≢ place) × (get_elem? between number ≡ some u)). absurd (isnt.0 same)) (at_set between place number spent u there_is) in
+    λ number same u there_is. ⊎_elim (λ (mine : (number ≡ place) × (spent ≡ u)). ap (λ (h : Hand). h.puts) (sym mine.1)) (λ (isnt : (number ≢ place) × (get_elem? between number ≡ some u)). absurd (isnt.0 same)) (at_set between place number spent u there_is) in
     let closed : (c : Closed) → IsClosed log hands c → IsClosed log now c =
-        λ c is.
-            let after = closed_same log hands 0 hand both c at refl is in (
-              is.0,
-              omega (arith, is.1, long),
-              λ u there_is. ⊎_elim (λ (mine : (c.number ≡ place) × (spent ≡ u)). ap (λ (h : Hand). h.puts) (sym mine.1)) (λ (isnt : (c.number ≢ place) × (get_elem? between c.number ≡ some u)). after.2 u isnt.1) (at_set between place c.number spent u there_is),
-            ) in
+    λ c is.
+    let after = closed_same log hands 0 hand both c at refl is in (
+      is.0,
+      omega (arith, is.1, long),
+      λ u there_is. ⊎_elim (λ (mine : (c.number ≡ place) × (spent ≡ u)). ap (λ (h : Hand). h.puts) (sym mine.1)) (λ (isnt : (c.number ≢ place) × (get_elem? between c.number ≡ some u)). after.2 u isnt.1) (at_set between place c.number spent u there_is),
+    ) in
     let last : Closed = record { number = other.number; put = other.put } in
     let is_last : IsClosed log now last = (theirs.1 ∙ ap (λ q. put_by q log) (sym theirs.0), omega (arith, there hands place other was, theirs.0, long), λ u there_is. gone other.number theirs.0 u there_is) in (
       log,
@@ -210,9 +209,9 @@ merges hand place other may waiting hands kept at apart at_other =
       (λ u there_is. ⊎_elim
           (λ (mine : (0 ≡ place) × (spent ≡ u)). absurd (apart (sym mine.0)))
           (λ (isnt : (0 ≢ place) × (get_elem? between 0 ≡ some u)). ⊎_elim
-              (λ (is : (0 ≡ 0) × (both ≡ u)). subst (Knows log taken now) is.1 (knows.0, long ∙ knows.1, All-push (IsClosed log now) hand.closed last (λ k d below. closed (get_or hand.closed k d) (knows.2 k d below)) is_last))
-              (λ (never : (0 ≢ 0) × (get_elem? hands 0 ≡ some u)). absurd (never.0 refl))
-              (at_set hands 0 0 both u isnt.1))
+          (λ (is : (0 ≡ 0) × (both ≡ u)). subst (Knows log taken now) is.1 (knows.0, long ∙ knows.1, All-push (IsClosed log now) hand.closed last (λ k d below. closed (get_or hand.closed k d) (knows.2 k d below)) is_last))
+          (λ (never : (0 ≢ 0) × (get_elem? hands 0 ≡ some u)). absurd (never.0 refl))
+          (at_set hands 0 0 both u isnt.1))
           (at_set between place 0 spent u there_is)),
       λ number past. kept.5 number (omega (arith, long, past)),
     )

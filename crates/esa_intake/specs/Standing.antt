@@ -1,11 +1,10 @@
 -- What an intake, its senders and its taker are seen as.
-use Rattle.std.specs.Prelude.{◌≡◌, ℕ, zero, suc, ◌+◌, true, List, [], ◌∷◌, ◌++◌, length, map, All}
+use Rattle.std.specs.Prelude.{◌≡◌, ℕ, zero, suc, true, List, [], ◌∷◌, ◌++◌, length, map, All}
 use Rattle.std.specs.List.{sum_by}
 use Rattle.std.specs.List.Sorted.{IsPermutation}
 use Rattle.crossbeam_queue.specs.Passes.{view, IsPassOf, ruled_capacity}
 use Rattle.esa_params.specs.declared.form.Form.{Form}
 use Rattle.esa_intake.specs.declared.sealed.Sealed.{Sealed}
-use Rattle.esa_intake.specs.declared.hand.Hand.{Hand}
 use Rattle.esa_intake.specs.declared.intake.Intake.{Intake}
 use Rattle.esa_intake.specs.declared.intake.Sender.{Sender}
 use Rattle.esa_intake.specs.declared.intake.Taker.{Taker}

@@ -59,7 +59,12 @@ impl Intake {
     }
 
     /// Makes the senders, counted from 1.
-    fn make_senders(&self, alloc: Global, taker: &mut Taker, number: u32) -> Result<Vec<Sender>, AllocError>
+    fn make_senders(
+        &self,
+        alloc: Global,
+        taker: &mut Taker,
+        number: u32,
+    ) -> Result<Vec<Sender>, AllocError>
         requires taker { IsTaker self.now taker.old }
         requires none { senders_of taker.old ≡ 0 }
         ensures senders { IfOk result (λ senders. AreNew self.now number senders.items) }
@@ -90,13 +95,15 @@ impl Intake {
     }
 
     /// Puts an envelope. False only where at a moment of this call as many waited as there is room for.
-    fn put<R: Wait>(&self, rt: &R, sender: &mut Sender, sealed: Sealed) -> bool
+    pub(crate) fn put<R: Wait>(&self, rt: &R, sender: &mut Sender, sealed: Sealed) -> bool
         requires { IsSender self.now sender.old }
         ensures sender { IsSender self.now sender.new × (number_of sender.new ≡ number_of sender.old) }
         ensures put { put_of sender.new ≡ (if result then put_of sender.old ++ sealed ∷ [] else put_of sender.old) }
         ensures full { OnFalse result (HasWaited (room_of self.now) sender.old) }
     {
-        self.line.push_as::<Puts, R>(rt, &mut sender.pass, sealed).is_ok()
+        self.line
+            .push_as::<Puts, R>(rt, &mut sender.pass, sealed)
+            .is_ok()
     }
 
     /// Takes the envelope that has waited longest. None only where at a moment of this call none waited.

@@ -6,8 +6,13 @@
 
 mod hand;
 mod intake;
+mod offer;
 mod sealed;
 
 pub use hand::{Closed, Hand};
 pub use intake::{Intake, Sender, Stand, Taker};
+pub use offer::OfferRefused;
 pub use sealed::Sealed;
+
+#[cfg(test)]
+mod tests;
