@@ -1,3 +1,4 @@
 mod Commands
 mod Steps
 mod Explaining
+mod Telling

@@ -1,6 +1,6 @@
 //! The top call: every command on one thread.
 
-ghost use Rattle.std.specs.Prelude.{◌≡◌, ◌↔◌, map, string_bytes, Some, None, false};
+ghost use Rattle.std.specs.Prelude.{◌≡◌, ◌↔◌, ℕ, List, map, string_bytes, Some, None, false};
 ghost use Rattle.esa_lists.specs.Files.{Files};
 ghost use Rattle.esa_refusal.specs.declared.refusal.Refusal.TheVariants.{NotBuilt};
 ghost use Rattle.esa_refusal.specs.declared.status.End.TheVariants.{Stopped};
@@ -9,7 +9,7 @@ ghost use Rattle.esa_command.specs.Ends.{Ends};
 ghost use Rattle.esa_command.specs.Stand.{stand};
 ghost use Rattle.esa_command.specs.Telling.{status_in};
 ghost use Rattle.esa_cli.specs.Call.{call_of};
-ghost use Rattle.esa_cli.specs.Explains.{IsExplained, IsComplete};
+ghost use Rattle.esa_cli.specs.Explains.{IsExplained, EndCounted, IsComplete, IsPrinted};
 ghost use Rattle.esa_cli.specs.Plain.{is_built, steps_of, IsUnbuilt, CallEnds, Runs};
 
 use crate::call::{Call, call_of};
@@ -67,8 +67,8 @@ fn perform<K: Cabinet, P: Printer>(
 /// Runs the command that the words after the program's name ask for, on one thread. It waits for nobody and returns.
 ///
 /// What the files of the cabinet hold decides what is written and printed. Only want of memory is free. `runs` says so of
-/// every cabinet and printer, by what they were heard to give and take; `explained` is what follows of it for a cabinet
-/// that tells its files.
+/// every cabinet and printer, by what they were heard to give and take, and the others are what follows of it: `explained`
+/// for a cabinet that tells its files, and `printed` for a printer that tells.
 pub fn esa_plain<K: Cabinet, P: Printer>(
     alloc: Global,
     words: &[String],
@@ -82,8 +82,13 @@ pub fn esa_plain<K: Cabinet, P: Printer>(
     ensures unbuilt { IsUnbuilt (call_of (map string_bytes words.now)) result }
     ensures explained { (files : Files) → K.told cabinet.old ≡ Some files
         → IsExplained (call_of (map string_bytes words.now)) files (K.faults cabinet.old) (K.faults cabinet.new) (K.told cabinet.new) result }
+    ensures counted { EndCounted (K.told cabinet.old) (K.faults cabinet.old) (K.faults cabinet.new) (P.faults printer.old) (P.faults printer.new) result }
     ensures complete { IsComplete (call_of (map string_bytes words.now)) (K.told cabinet.old)
         (K.faults cabinet.old) (K.faults cabinet.new) (P.faults printer.old) (P.faults printer.new) result }
+    ensures printed { (text : List ℕ) → P.told printer.old ≡ Some text
+        → IsPrinted (call_of (map string_bytes words.now)) (K.told cabinet.old) (P.faults printer.old) (P.faults printer.new) text (P.told printer.new) result }
+    ensures silent { K.told cabinet.old ≡ None → K.told cabinet.new ≡ None }
+    ensures printer_silent { P.told printer.old ≡ None → P.told printer.new ≡ None }
 {
     let end = perform(alloc, words, cabinet, printer);
     tell(end, printer)
