@@ -1,5 +1,7 @@
 -- The workers of a floor, each at its post.
 use Rattle.std.specs.Prelude.{◌≡◌, ℕ, ◌<◌, List, length, slice_index_or}
+use Rattle.esa_envelope.specs.declared.keys.Keys.{Keys}
+use Rattle.esa_params.specs.Sizes.{Sizes}
 use Rattle.esa_spec.specs.Draws.{Draw}
 use Rattle.esa_floor.specs.Parts.{Parts}
 use Rattle.esa_floor.specs.Workers.{IsOfFloor, WorkerStands}
@@ -23,3 +25,11 @@ AreMembers ds target_lists f workers = (k : ℕ) (w : Working _) → k < length 
 
 abbrev pub ArePosts : {V C : Type 0} → (ℕ → Draw) → (C → ℕ → ℕ → List ℕ) → Parts V → List (Working C) → Type 0
 ArePosts ds target_lists f workers = (k : ℕ) (w : Working _) → k < length workers → IsPost ds target_lists f k (slice_index_or workers k w)
+
+-- the worker was made for a plan, with this number, keys and coins
+pub record IsNewWorker {C : Type 0} (coins : C) (p : Sizes) (outer run : Keys) (place : ℕ) (w : Working C) : Type 0 where
+  pub number : w.number ≡ place
+  pub coins_are : w.coins ≡ coins
+  pub plan : w.buffers.plan ≡ p
+  pub outer_are : w.outer ≡ outer
+  pub run_are : w.run ≡ run

@@ -6,8 +6,13 @@
 
 mod begins;
 mod loads;
+mod members;
 mod replays;
 
 pub use begins::begin;
 pub use loads::loaded_floors_begin;
+pub use members::workers;
 pub use replays::replay;
+
+#[cfg(test)]
+mod tests;

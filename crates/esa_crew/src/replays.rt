@@ -76,7 +76,7 @@ fn is_over<V: Device, G: Told>(floor: &Floor<V, G>) -> bool
 }
 
 /// How many turns the completion of a list has.
-fn most_turns(plan: &Plan, turns: &[u32]) -> usize
+pub(crate) fn most_turns(plan: &Plan, turns: &[u32]) -> usize
     requires { length turns.now ≤ 4194304 }
     ensures value { result ≡ length turns.now + plan.now.b * (plan.now.b + 3) * plan.now.workers }
     ensures few { result < 2 ^ 31 }

@@ -47,6 +47,7 @@ pub struct Roots {
 ///
 /// It is of a plan and of draws, `G`, which no value keeps. It stands for its history where the history decides all that
 /// it holds.
+#[derive(Drop)]
 pub struct Floor<V: Device, G: Told> {
     outer: Keys,
     run: Keys,

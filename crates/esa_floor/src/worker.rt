@@ -41,6 +41,7 @@ pub enum Stage {
 }
 
 /// A worker of a run. It has the buffers that its turns and its private work need, and takes its targets from coins.
+#[derive(Drop)]
 pub struct Worker<'c, C: Coins> {
     coins: &'c C,
     number: u32,
