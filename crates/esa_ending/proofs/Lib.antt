@@ -1,0 +1,4 @@
+pub mod CutLaws
+pub mod DecisionLaws
+pub mod FrontLaws
+pub mod OutputLaws
