@@ -1,16 +1,17 @@
 -- The accesses of turns that were cut short.
-use Rattle.std.proofs.Common.{◌≡◌, ℕ, zero, suc, ◌+◌, Bool, true, false, cond, List, [], ◌∷◌, ◌++◌, take, drop, refl, sym, ◌∙◌, ap, subst, append-nil}
+use Rattle.std.proofs.Common.{◌≡◌, ℕ, zero, suc, ◌+◌, ◌<◌, length, map, Bool, true, false, cond, List, [], ◌∷◌, ◌++◌, take, drop, refl, sym, ◌∙◌, ap, subst, append-nil}
 use Rattle.std.specs.Prelude.{Option, Some, None}
 use Rattle.std.proofs.lemmas.List.{take-append-drop}
-use Rattle.esa_params.specs.Sizes.{Sizes}
+use Rattle.esa_params.specs.Sizes.{Sizes, below}
 use Rattle.esa_params.specs.declared.slot.Access.{Access}
 use Rattle.esa_laws.proofs.AfterLaws.{keeps, spread-begins}
-use Rattle.esa_laws.proofs.LaterLaws.{attempts-stop, good-ends, good_attempt-stops}
+use Rattle.esa_laws.proofs.LaterLaws.{attempts-stop, good-ends, good_attempt-stops, trace-stops}
 use Rattle.esa_spec.specs.Draws.{Draw}
 use Rattle.esa_spec.specs.Traces.{spread, rest, drain, attempt_trace, is_failed, all_failed, attempts, good_attempt, load, scan, scans, shuffle_trace, trace}
 use Rattle.esa_spec.specs.Turns.{order}
 use Rattle.esa_spec.specs.Verdicts.{failing, is_finished, left}
-use Rattle.esa_ending.specs.Seen.{Begins, AreCut}
+use Rattle.esa_ending.specs.Endings.{Succeeds, Overflows, IsCutAt}
+use Rattle.esa_ending.specs.Seen.{Seen, stored, Begins, EndsWith, AreCut, verdict_in}
 use Rattle.esa_ending.proofs.FrontLaws.{behind, joined-front, onward, whole}
 
 -- an attempt that isn't finished has no accesses behind its turns
@@ -98,3 +99,51 @@ all-fail p ds a hs None e failed = refl
 pub none-scanned : (p : Sizes) (ds : ℕ → Draw) (hs : List (List ℕ)) → all_failed p ds 0 hs ≡ true → trace p ds hs ≡ shuffle_trace p ds hs
 none-scanned p ds hs failed =
     ap (λ y. shuffle_trace p ds hs ++ scans p y) (all-fail p ds 0 hs (good_attempt p ds 0 hs) refl failed) ∙ append-nil (shuffle_trace p ds hs)
+
+pub traces-suffice : (p : Sizes) (ds : ℕ → Draw) (hs : List (List ℕ)) (m a : ℕ) → good_attempt p ds 0 (take m hs) ≡ Some a → trace p ds hs ≡ trace p ds (take m hs)
+traces-suffice p ds hs m a e =
+    ap (trace p ds) (sym (take-append-drop m hs)) ∙ trace-stops p ds (take m hs) (drop m hs) (good-ends p ds 0 a (take m hs) e)
+
+-- what is seen beside the stored turns
+module _ (p : Sizes) (ds : ℕ → Draw) (hs : List (List ℕ)) (seen : Seen) where
+  pub succeeded : (a : ℕ) → a < p.attempts → stored p seen ≡ take (a + 1) hs → good_attempt p ds 0 (stored p seen) ≡ Some a
+      → seen.trace ≡ shuffle_trace p ds (stored p seen) ++ (scan p a ++ scan p a) → Succeeds p ds hs seen a
+  succeeded a planned same good traced =
+      let good' : good_attempt p ds 0 (take (a + 1) hs) ≡ Some a = ap (good_attempt p ds 0) (sym same) ∙ good in
+      record {
+        planned = planned;
+        good = good-of-take p ds hs (a + 1) a good';
+        whole = traced ∙ ap (λ y. shuffle_trace p ds y ++ (scan p a ++ scan p a)) same ∙ sym (scanned p ds hs (a + 1) a good');
+        turns = same;
+      }
+
+  pub overflowed : length hs ≡ p.attempts → stored p seen ≡ hs → all_failed p ds 0 (stored p seen) ≡ true
+      → seen.trace ≡ shuffle_trace p ds (stored p seen) → Overflows p ds hs seen (map (verdict_in p ds hs) (below p.attempts))
+  overflowed planned same failed traced =
+      let failed' : all_failed p ds 0 hs ≡ true = ap (all_failed p ds 0) (sym same) ∙ failed in
+      record {
+        planned = planned;
+        failed = failed';
+        verdicts = refl;
+        whole = traced ∙ ap (shuffle_trace p ds) same ∙ sym (none-scanned p ds hs failed');
+        turns = same;
+      }
+
+  pub cut-at : (access : Access) → AreCut (stored p seen) hs → EndsWith seen.trace access
+      → Begins seen.trace (shuffle_trace p ds (stored p seen)) → IsCutAt p ds hs seen access
+  cut-at access cut last front =
+      record {
+        front = onward seen.trace (shuffle_trace p ds (stored p seen)) (trace p ds hs) front (cut-front p ds (stored p seen) hs cut);
+        last = last;
+        turns = cut;
+      }
+
+  pub cut-in-scan : (access : Access) (m a : ℕ) → stored p seen ≡ take m hs → good_attempt p ds 0 (stored p seen) ≡ Some a
+      → EndsWith seen.trace access → Begins seen.trace (trace p ds (stored p seen)) → IsCutAt p ds hs seen access
+  cut-in-scan access m a same good last front =
+      let good' : good_attempt p ds 0 (take m hs) ≡ Some a = ap (good_attempt p ds 0) (sym same) ∙ good in
+      record {
+        front = subst (Begins seen.trace) (ap (trace p ds) same ∙ sym (traces-suffice p ds hs m a good')) front;
+        last = last;
+        turns = subst (λ y. AreCut y hs) (sym same) (cut-behind hs m);
+      }

@@ -1,3 +1,4 @@
+pub mod CompletionLaws
 pub mod CutLaws
 pub mod DecisionLaws
 pub mod FrontLaws
