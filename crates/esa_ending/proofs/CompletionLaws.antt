@@ -1,7 +1,6 @@
 -- Attempts that all failed, and turns that were completed.
 use Rattle.std.proofs.Common.{◌≡◌, ℕ, zero, suc, ◌+◌, ◌≤◌, ◌<◌, Bool, true, false, cond, ◌&&◌, List, [], ◌∷◌, length, map, refl, sym, ◌∙◌, ap, arith, subst}
 use Rattle.std.specs.List.{All}
-use Rattle.std.proofs.lemmas.List.{length-map}
 use Rattle.std.proofs.lemmas.List.Elements.{All-head, All-tail, All-map}
 use Rattle.std.proofs.lemmas.List.FromFn.{get_or-range_with_len, length-range_with_len}
 use Rattle.esa_params.specs.Sizes.{Sizes, below}
@@ -40,7 +39,6 @@ module _ (p : Sizes) (ds : ℕ → Draw) where
       All-map (λ v. is_good v ≡ false) (verdict_in p ds hs) (below (length hs))
       (λ k d k_in.
       let k_there : k < length hs = omega (arith, length-range_with_len 0 (length hs)) in
-      let is : 0 + k ≡ 0 + k = refl in
       subst (λ y. is_good (verdict_in p ds hs y) ≡ false) (sym (get_or-range_with_len 0 (length hs) k d k_there))
       (subst (λ y. is_good (verdict p (ds (0 + k)) (turns_in hs y)) ≡ false) (omega arith) (failed-each 0 hs failed k k_there)))
 

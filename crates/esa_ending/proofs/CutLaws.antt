@@ -9,7 +9,7 @@ use Rattle.esa_laws.proofs.LaterLaws.{attempts-stop, good-ends, good_attempt-sto
 use Rattle.esa_spec.specs.Draws.{Draw}
 use Rattle.esa_spec.specs.Traces.{spread, rest, drain, attempt_trace, is_failed, all_failed, attempts, good_attempt, load, scan, scans, shuffle_trace, trace}
 use Rattle.esa_spec.specs.Turns.{order}
-use Rattle.esa_spec.specs.Verdicts.{failing, is_finished, left}
+use Rattle.esa_spec.specs.Verdicts.{failing, is_finished, is_good, left, verdict}
 use Rattle.esa_ending.specs.Endings.{Succeeds, Overflows, IsCutAt}
 use Rattle.esa_ending.specs.Seen.{Seen, stored, Begins, EndsWith, AreCut, verdict_in}
 use Rattle.esa_ending.proofs.FrontLaws.{behind, joined-front, onward, whole}
@@ -57,11 +57,8 @@ module _ (p : Sizes) (ds : ℕ → Draw) where
       (behind (attempt_trace p (ds a) a h) (cond (is_failed p (ds a) h) later []) (cond (is_failed p (ds a) h) all [])
       (next-by later all (is_failed p (ds a) h) (attempts-front (a + 1) (other ∷ made) hs cut.1)))
 
-  pub cut-front : (made hs : List (List ℕ)) → AreCut made hs → Begins (shuffle_trace p ds made) (trace p ds hs)
-  cut-front made hs cut =
-      onward (shuffle_trace p ds made) (shuffle_trace p ds hs) (trace p ds hs)
-      (behind (load p) (attempts p ds 0 made) (attempts p ds 0 hs) (attempts-front 0 made hs cut))
-      (joined-front (shuffle_trace p ds hs) (scans p (good_attempt p ds 0 hs)))
+  pub shuffle-front : (made hs : List (List ℕ)) → AreCut made hs → Begins (shuffle_trace p ds made) (shuffle_trace p ds hs)
+  shuffle-front made hs cut = behind (load p) (attempts p ds 0 made) (attempts p ds 0 hs) (attempts-front 0 made hs cut)
 
   -- the attempts up to the one that succeeds
   pub good-of-take : (hs : List (List ℕ)) (m a : ℕ) → good_attempt p ds 0 (take m hs) ≡ Some a → good_attempt p ds 0 hs ≡ Some a
@@ -104,6 +101,79 @@ pub traces-suffice : (p : Sizes) (ds : ℕ → Draw) (hs : List (List ℕ)) (m a
 traces-suffice p ds hs m a e =
     ap (trace p ds) (sym (take-append-drop m hs)) ∙ trace-stops p ds (take m hs) (drop m hs) (good-ends p ds 0 a (take m hs) e)
 
+-- turns of which an attempt succeeds make all accesses
+record Succeeded (p : Sizes) (ds : ℕ → Draw) (a m : ℕ) (made hs : List (List ℕ)) : Type 0 where
+  good : good_attempt p ds a hs ≡ Some m
+  accesses : attempts p ds a made ≡ attempts p ds a hs
+
+module _ (p : Sizes) (ds : ℕ → Draw) where
+  last-good : (a m : ℕ) (h more : List ℕ) (hs : List (List ℕ)) (c g : Bool) → is_finished p (ds a) h ≡ c → is_good (verdict p (ds a) h) ≡ g
+      → cond c (cond g (Some a) None) None ≡ Some m → Succeeded p ds a m (h ∷ []) ((h ++ more) ∷ hs)
+  last-good a m h more hs false g ec eg e = absurd (cc)
+  last-good a m h more hs true false ec eg e = absurd (cc)
+  last-good a m h more hs true true ec eg e =
+      let k = keeps p (ds a) a h more ec in
+      let all = h ++ more in
+      let later = good_attempt p ds (a + 1) hs in
+      let good : is_good (verdict p (ds a) all) ≡ true = ap is_good k.verdict_same ∙ eg in
+      let ends : is_failed p (ds a) all ≡ false =
+      ap (λ y. cond y (cond (is_good (verdict p (ds a) all)) false true) false) k.finished ∙ ap (λ y. cond y false true) good in
+      record {
+        good = ap (λ y. cond y (cond (is_good (verdict p (ds a) all)) (Some a) later) None) k.finished ∙ ap (λ y. cond y (Some a) later) good ∙ e;
+        accesses =
+            last-by (attempt_trace p (ds a) a h) (is_failed p (ds a) h)
+            ∙ sym (ap (λ y. attempt_trace p (ds a) a all ++ cond y (attempts p ds (a + 1) hs) []) ends
+            ∙ append-nil (attempt_trace p (ds a) a all) ∙ k.trace_same);
+      }
+
+  next-good : (a m : ℕ) (h : List ℕ) (made hs : List (List ℕ)) (c g : Bool) → is_finished p (ds a) h ≡ c → is_good (verdict p (ds a) h) ≡ g
+      → cond c (cond g (Some a) (good_attempt p ds (a + 1) made)) None ≡ Some m
+      → (good_attempt p ds (a + 1) made ≡ Some m → Succeeded p ds (a + 1) m made hs) → Succeeded p ds a m (h ∷ made) (h ∷ hs)
+  next-good a m h made hs false g ec eg e later = absurd (cc)
+  next-good a m h made hs true true ec eg e later =
+      let ends : is_failed p (ds a) h ≡ false =
+      ap (λ y. cond y (cond (is_good (verdict p (ds a) h)) false true) false) ec ∙ ap (λ y. cond y false true) eg in
+      let here = attempt_trace p (ds a) a h in
+      record {
+        good = ap (λ y. cond y (cond (is_good (verdict p (ds a) h)) (Some a) (good_attempt p ds (a + 1) hs)) None) ec
+            ∙ ap (λ y. cond y (Some a) (good_attempt p ds (a + 1) hs)) eg ∙ e;
+        accesses = ap (λ y. here ++ cond y (attempts p ds (a + 1) made) []) ends ∙ sym (ap (λ y. here ++ cond y (attempts p ds (a + 1) hs) []) ends);
+      }
+  next-good a m h made hs true false ec eg e later =
+      let s = later e in
+      record {
+        good = ap (λ y. cond y (cond (is_good (verdict p (ds a) h)) (Some a) (good_attempt p ds (a + 1) hs)) None) ec
+            ∙ ap (λ y. cond y (Some a) (good_attempt p ds (a + 1) hs)) eg ∙ s.good;
+        accesses = ap (λ y. attempt_trace p (ds a) a h ++ cond (is_failed p (ds a) h) y []) s.accesses;
+      }
+
+  good-cut : (a m : ℕ) (made hs : List (List ℕ)) → AreCut made hs → good_attempt p ds a made ≡ Some m → Succeeded p ds a m made hs
+  good-cut a m [] hs cut e = absurd (cc)
+  good-cut a m (h ∷ made) [] cut e = absurd cut
+  good-cut a m (h ∷ []) (g ∷ hs) cut e =
+      subst (λ y. Succeeded p ds a m (h ∷ []) (y ∷ hs)) (sym cut.1)
+      (last-good a m h cut.0 hs (is_finished p (ds a) h) (is_good (verdict p (ds a) h)) refl refl e)
+  good-cut a m (h ∷ other ∷ made) (g ∷ hs) cut e =
+      subst (λ y. Succeeded p ds a m (h ∷ other ∷ made) (y ∷ hs)) cut.0
+      (next-good a m h (other ∷ made) hs (is_finished p (ds a) h) (is_good (verdict p (ds a) h)) refl refl e
+      (good-cut (a + 1) m (other ∷ made) hs cut.1))
+
+  trace-by : (made hs : List (List ℕ)) (o : Option ℕ) → AreCut made hs → good_attempt p ds 0 made ≡ o → Begins (trace p ds made) (trace p ds hs)
+  trace-by made hs None cut e =
+      let alone : trace p ds made ≡ shuffle_trace p ds made =
+      ap (λ y. shuffle_trace p ds made ++ scans p y) e ∙ append-nil (shuffle_trace p ds made) in
+      subst (λ y. Begins y (trace p ds hs)) (sym alone)
+      (onward (shuffle_trace p ds made) (shuffle_trace p ds hs) (trace p ds hs) (shuffle-front p ds made hs cut)
+      (joined-front (shuffle_trace p ds hs) (scans p (good_attempt p ds 0 hs))))
+  trace-by made hs (Some m) cut e =
+      let s = good-cut 0 m made hs cut e in
+      whole (trace p ds made) (trace p ds hs)
+      (ap (λ y. (load p ++ y) ++ scans p (good_attempt p ds 0 made)) s.accesses
+      ∙ ap (λ y. shuffle_trace p ds hs ++ scans p y) (e ∙ sym s.good))
+
+  pub trace-front : (made hs : List (List ℕ)) → AreCut made hs → Begins (trace p ds made) (trace p ds hs)
+  trace-front made hs cut = trace-by made hs (good_attempt p ds 0 made) cut refl
+
 -- what is seen beside the stored turns
 module _ (p : Sizes) (ds : ℕ → Draw) (hs : List (List ℕ)) (seen : Seen) where
   pub succeeded : (a : ℕ) → a < p.attempts → stored p seen ≡ take (a + 1) hs → good_attempt p ds 0 (stored p seen) ≡ Some a
@@ -130,20 +200,18 @@ module _ (p : Sizes) (ds : ℕ → Draw) (hs : List (List ℕ)) (seen : Seen) wh
       }
 
   pub cut-at : (access : Access) → AreCut (stored p seen) hs → EndsWith seen.trace access
-      → Begins seen.trace (shuffle_trace p ds (stored p seen)) → IsCutAt p ds hs seen access
-  cut-at access cut last front =
+      → Begins seen.trace (trace p ds (stored p seen)) → IsCutAt p ds hs seen access
+  cut-at access cut last told =
       record {
-        front = onward seen.trace (shuffle_trace p ds (stored p seen)) (trace p ds hs) front (cut-front p ds (stored p seen) hs cut);
+        front = onward seen.trace (trace p ds (stored p seen)) (trace p ds hs) told (trace-front p ds (stored p seen) hs cut);
         last = last;
         turns = cut;
+        told = told;
       }
 
-  pub cut-in-scan : (access : Access) (m a : ℕ) → stored p seen ≡ take m hs → good_attempt p ds 0 (stored p seen) ≡ Some a
-      → EndsWith seen.trace access → Begins seen.trace (trace p ds (stored p seen)) → IsCutAt p ds hs seen access
-  cut-in-scan access m a same good last front =
-      let good' : good_attempt p ds 0 (take m hs) ≡ Some a = ap (good_attempt p ds 0) (sym same) ∙ good in
-      record {
-        front = subst (Begins seen.trace) (ap (trace p ds) same ∙ sym (traces-suffice p ds hs m a good')) front;
-        last = last;
-        turns = subst (λ y. AreCut y hs) (sym same) (cut-behind hs m);
-      }
+  pub cut-in-shuffle : (access : Access) → AreCut (stored p seen) hs → EndsWith seen.trace access
+      → Begins seen.trace (shuffle_trace p ds (stored p seen)) → IsCutAt p ds hs seen access
+  cut-in-shuffle access cut last front =
+      let made = shuffle_trace p ds (stored p seen) in
+      cut-at access cut last
+      (onward seen.trace made (trace p ds (stored p seen)) front (joined-front made (scans p (good_attempt p ds 0 (stored p seen)))))

@@ -29,12 +29,14 @@ pub record Overflows (p : Sizes) (ds : ℕ → Draw) (hs : List (List ℕ)) (see
   pub whole : seen.trace ≡ trace p ds hs
   pub turns : stored p seen ≡ hs
 
--- the run was cut short at an access: its accesses are a front of the computed trace and end with this one, and the turns
--- that were stored are those of a front of the attempts
+-- the run was cut short at an access
 pub record IsCutAt (p : Sizes) (ds : ℕ → Draw) (hs : List (List ℕ)) (seen : Seen) (access : Access) : Type 0 where
+  -- what was made of the computed trace is a front of it, and ends with this access
   pub front : Begins seen.trace (trace p ds hs)
   pub last : EndsWith seen.trace access
+  -- the stored turns were cut short too, and tell of each access that was made
   pub turns : AreCut (stored p seen) hs
+  pub told : Begins seen.trace (trace p ds (stored p seen))
 
 -- the device failed at the last access, which is to the slot of this number
 pub record DeviceFails (p : Sizes) (ds : ℕ → Draw) (hs : List (List ℕ)) (seen : Seen) (number : ℕ) : Type 0 where

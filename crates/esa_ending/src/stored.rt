@@ -10,8 +10,10 @@ ghost use Rattle.esa_spec.specs.Traces.{all_failed, good_attempt, scan, shuffle_
 
 /// Turns that were cut short make a front of the accesses. Turns that weren't are cut short nowhere.
 pub fn cut_turns_make_a_front()
-    ensures front { (p : Sizes) (ds : ℕ → Draw) (made hs : List (List ℕ)) → AreCut made hs
-        → Begins (shuffle_trace p ds made) (trace p ds hs) }
+    ensures run { (p : Sizes) (ds : ℕ → Draw) (made hs : List (List ℕ)) → AreCut made hs
+        → Begins (trace p ds made) (trace p ds hs) }
+    ensures shuffle { (p : Sizes) (ds : ℕ → Draw) (made hs : List (List ℕ)) → AreCut made hs
+        → Begins (shuffle_trace p ds made) (shuffle_trace p ds hs) }
     ensures whole { (hs : List (List ℕ)) → AreCut hs hs }
     ensures attempts { (hs : List (List ℕ)) (m : ℕ) → AreCut (take m hs) hs }
 {}
@@ -39,8 +41,7 @@ pub fn stored_turns_tell()
         → stored p seen ≡ hs → all_failed p ds 0 (stored p seen) ≡ true → seen.trace ≡ shuffle_trace p ds (stored p seen)
         → Overflows p ds hs seen (map (verdict_in p ds hs) (below p.attempts)) }
     ensures cut { (p : Sizes) (ds : ℕ → Draw) (hs : List (List ℕ)) (seen : Seen) (access : Access) → AreCut (stored p seen) hs
-        → EndsWith seen.trace access → Begins seen.trace (shuffle_trace p ds (stored p seen)) → IsCutAt p ds hs seen access }
-    ensures cut_in_scan { (p : Sizes) (ds : ℕ → Draw) (hs : List (List ℕ)) (seen : Seen) (access : Access) (m a : ℕ)
-        → stored p seen ≡ take m hs → good_attempt p ds 0 (stored p seen) ≡ Some a
         → EndsWith seen.trace access → Begins seen.trace (trace p ds (stored p seen)) → IsCutAt p ds hs seen access }
+    ensures cut_in_shuffle { (p : Sizes) (ds : ℕ → Draw) (hs : List (List ℕ)) (seen : Seen) (access : Access) → AreCut (stored p seen) hs
+        → EndsWith seen.trace access → Begins seen.trace (shuffle_trace p ds (stored p seen)) → IsCutAt p ds hs seen access }
 {}

@@ -1,4 +1,4 @@
-use Rattle.esa_ending.proofs.CutLaws.{cut-at, cut-in-scan, overflowed, succeeded}
+use Rattle.esa_ending.proofs.CutLaws.{cut-at, cut-in-shuffle, overflowed, succeeded}
 use Rattle.esa_ending.proofs.stored.stored_turns_tell.Goals as goal
 
 pub returns-clause-success : goal.returns-clause-success
@@ -10,5 +10,5 @@ returns-clause-overflow c = overflowed
 pub returns-clause-cut : goal.returns-clause-cut
 returns-clause-cut c = cut-at
 
-pub returns-clause-cut_in_scan : goal.returns-clause-cut_in_scan
-returns-clause-cut_in_scan c = cut-in-scan
+pub returns-clause-cut_in_shuffle : goal.returns-clause-cut_in_shuffle
+returns-clause-cut_in_shuffle c = cut-in-shuffle
