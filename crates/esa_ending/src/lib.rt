@@ -6,6 +6,8 @@
 //! alone, and takes no memory.
 #![tactic(auto)]
 
+#[cfg(test)]
+mod cases;
 pub mod decisions;
 pub mod fronts;
 pub mod outputs;
