@@ -206,7 +206,7 @@ module _ (p : Sizes) (ds : ℕ → Draw) (hs : List (List ℕ)) (seen : Seen) wh
         front = onward seen.trace (trace p ds (stored p seen)) (trace p ds hs) told (trace-front p ds (stored p seen) hs cut);
         last = last;
         turns = cut;
-        told = told;
+        of_stored = told;
       }
 
   pub cut-in-shuffle : (access : Access) → AreCut (stored p seen) hs → EndsWith seen.trace access

@@ -31,12 +31,12 @@ pub record Overflows (p : Sizes) (ds : ℕ → Draw) (hs : List (List ℕ)) (see
 
 -- the run was cut short at an access
 pub record IsCutAt (p : Sizes) (ds : ℕ → Draw) (hs : List (List ℕ)) (seen : Seen) (access : Access) : Type 0 where
-  -- what was made of the computed trace is a front of it, and ends with this access
+  -- the accesses are a front of the computed trace, and end with this one
   pub front : Begins seen.trace (trace p ds hs)
   pub last : EndsWith seen.trace access
-  -- the stored turns were cut short too, and tell of each access that was made
+  -- the stored turns were cut short too, and each access that was made is one of theirs
   pub turns : AreCut (stored p seen) hs
-  pub told : Begins seen.trace (trace p ds (stored p seen))
+  pub of_stored : Begins seen.trace (trace p ds (stored p seen))
 
 -- the device failed at the last access, which is to the slot of this number
 pub record DeviceFails (p : Sizes) (ds : ℕ → Draw) (hs : List (List ℕ)) (seen : Seen) (number : ℕ) : Type 0 where
@@ -44,8 +44,8 @@ pub record DeviceFails (p : Sizes) (ds : ℕ → Draw) (hs : List (List ℕ)) (s
   pub cut : IsCutAt p ds hs seen access
   pub slot : slot_number p access ≡ number
 
--- the last access is a read of the slot of this number, and the block that it gave doesn't open. Whether a block opens
--- for a slot, an attempt and a number of items before the dummies is told by `opens`
+-- the last access is a read of the slot of this number, and the block that it gave doesn't open. `opens` says whether it
+-- opens for a slot, an attempt and a number of items before the dummies
 pub record BlockIsTampered (p : Sizes) (ds : ℕ → Draw) (hs : List (List ℕ)) (seen : Seen) (opens : Slot → ℕ → ℕ → Bool) (number : ℕ) : Type 0 where
   pub access : Access
   pub cut : IsCutAt p ds hs seen access

@@ -31,9 +31,9 @@ pub fn stored_turns_suffice()
         → trace p ds hs ≡ shuffle_trace p ds hs }
 {}
 
-/// What is seen beside the stored turns alone, as the shuffler sees it, is how the run ended: a success once its output
-/// was scanned twice, an overflow, and a run that was cut short in the shuffle or in a scan.
-pub fn stored_turns_tell()
+/// Who knows the accesses by the stored turns, as the shuffler does, knows how the run ended: in success once the output
+/// was scanned twice, in an overflow, or cut short in the shuffle or in a scan.
+pub fn endings_of_stored_turns()
     ensures success { (p : Sizes) (ds : ℕ → Draw) (hs : List (List ℕ)) (seen : Seen) (a : ℕ) → a < p.attempts
         → stored p seen ≡ take (a + 1) hs → good_attempt p ds 0 (stored p seen) ≡ Some a
         → seen.trace ≡ shuffle_trace p ds (stored p seen) ++ (scan p a ++ scan p a) → Succeeds p ds hs seen a }

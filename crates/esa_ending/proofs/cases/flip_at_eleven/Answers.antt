@@ -11,7 +11,7 @@ returns-clause-tampered c = record {
     front = (drop 11 base_trace, refl);
     last = (take 10 base_trace, refl);
     turns = ([], refl);
-    told = (drop 11 base_trace, refl);
+    of_stored = (drop 11 base_trace, refl);
   };
   slot = refl;
   reads = refl;

@@ -1,5 +1,5 @@
 use Rattle.esa_ending.proofs.CutLaws.{cut-at, cut-in-shuffle, overflowed, succeeded}
-use Rattle.esa_ending.proofs.stored.stored_turns_tell.Goals as goal
+use Rattle.esa_ending.proofs.stored.endings_of_stored_turns.Goals as goal
 
 pub returns-clause-success : goal.returns-clause-success
 returns-clause-success c = succeeded
