@@ -1,5 +1,5 @@
--- How a run ends. Its sizes p, what each attempt draws (ds) and the turns of each attempt (hs) give one list of accesses,
--- its computed trace. A record says of each ending what is seen.
+-- How a run ends. Its sizes p, what each attempt draws (ds) and the turns of each attempt (hs) give one list of
+-- accesses, its computed trace. A record says of each ending what is seen.
 use Rattle.std.specs.Prelude.{◌≡◌, ℕ, ◌+◌, ◌<◌, true, false, Bool, Some, List, [], length, take, map}
 use Rattle.esa_params.specs.Sizes.{Sizes, below}
 use Rattle.esa_params.specs.Slots.{at, slot_number}
@@ -44,8 +44,8 @@ pub record DeviceFails (p : Sizes) (ds : ℕ → Draw) (hs : List (List ℕ)) (s
   pub cut : IsCutAt p ds hs seen access
   pub slot : slot_number p access ≡ number
 
--- the last access is a read of the slot of this number, and the block that it gave doesn't open. `opens` says whether it
--- opens for a slot, an attempt and a number of items before the dummies
+-- the last access is a read of the slot of this number, and the block that it gave doesn't open. `opens` says whether
+-- it opens for a slot, an attempt and a number of items before the dummies
 pub record BlockIsTampered (p : Sizes) (ds : ℕ → Draw) (hs : List (List ℕ)) (seen : Seen) (opens : Slot → ℕ → ℕ → Bool) (number : ℕ) : Type 0 where
   pub access : Access
   pub cut : IsCutAt p ds hs seen access

@@ -12,8 +12,8 @@ ghost use Rattle.esa_spec.specs.Verdicts.{is_good};
 ghost use Rattle.esa_spec.specs.declared.event.Verdict.{Verdict};
 
 /// Two runs of the same sizes and turns, whose draws agree on the targets of the attempts that there are: where nothing
-/// failed both succeed in the same attempt, or both overflow with the same failures, and they make the same accesses and
-/// store the same turns. No run can do both.
+/// failed both succeed in the same attempt, or both overflow with the same failures, and they make the same accesses
+/// and store the same turns. No run can do both.
 pub fn runs_agree()
     ensures success { (p : Sizes) (ds es : ℕ → Draw) (hs : List (List ℕ)) (seen other : Seen) (a e : ℕ)
         → ((x : ℕ) → x < length hs → SameTargets p (ds x) (es x))
@@ -28,7 +28,8 @@ pub fn runs_agree()
         → Succeeds p ds hs seen a → Overflows p es hs other failures → ⊥ }
 {}
 
-/// Each failure of an overflow is that of an attempt that is finished and isn't good, and there is one for each attempt.
+/// Each failure of an overflow is that of an attempt that is finished and isn't good, and there is one for each
+/// attempt.
 pub fn failures_are_bad()
     ensures count { (p : Sizes) (ds : ℕ → Draw) (hs : List (List ℕ)) (seen : Seen) (failures : List Verdict)
         → Overflows p ds hs seen failures → length failures ≡ p.attempts }

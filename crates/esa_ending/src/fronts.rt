@@ -12,8 +12,8 @@ ghost use Rattle.esa_spec.specs.Files.{trace_bytes};
 ghost use Rattle.esa_spec.specs.Traces.{trace, written_nonces, writes_in};
 ghost use Rattle.esa_spec.specs.declared.event.Verdict.{Verdict};
 
-/// However a run ends, its accesses are a front of the computed trace. They are the whole of it unless the device or the
-/// batch file failed or a block was tampered with.
+/// However a run ends, its accesses are a front of the computed trace. They are the whole of it unless the device or
+/// the batch file failed or a block was tampered with.
 pub fn endings_are_fronts()
     ensures succeeded { (p : Sizes) (ds : ℕ → Draw) (hs : List (List ℕ)) (seen : Seen) (a : ℕ)
         → Succeeds p ds hs seen a → seen.trace ≡ trace p ds hs }

@@ -31,8 +31,8 @@ pub fn stored_turns_suffice()
         → trace p ds hs ≡ shuffle_trace p ds hs }
 {}
 
-/// Who knows the accesses by the stored turns, as the shuffler does, knows how the run ended: in success once the output
-/// was scanned twice, in an overflow, or cut short in the shuffle or in a scan.
+/// Who knows the accesses by the stored turns, as the shuffler does, knows how the run ended: in success once the
+/// output was scanned twice, in an overflow, or cut short in the shuffle or in a scan.
 pub fn endings_of_stored_turns()
     ensures success { (p : Sizes) (ds : ℕ → Draw) (hs : List (List ℕ)) (seen : Seen) (a : ℕ) → a < p.attempts
         → stored p seen ≡ take (a + 1) hs → good_attempt p ds 0 (stored p seen) ≡ Some a
