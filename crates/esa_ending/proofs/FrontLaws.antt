@@ -1,8 +1,9 @@
 -- Lists that begin others, and what holds of each front of a computed trace.
-use Rattle.std.proofs.Common.{inl, inr, ◌≡◌, ℕ, ◌+◌, ◌-◌, ◌*◌, ◌≤◌, ◌<◌, Bool, List, [], ◌∷◌, ◌++◌, length, map, refl, sym, ◌∙◌, ap, arith, append_assoc, append-nil, length-append, subst}
+use Rattle.std.proofs.Common.{inl, inr, ◌≡◌, ℕ, ◌+◌, ◌-◌, ◌*◌, ◌≤◌, ◌<◌, Bool, List, [], ◌∷◌, ◌++◌, length, map, take, refl, sym, ◌∙◌, ap, arith, append_assoc, append-nil, length-append, subst}
 use Rattle.std.specs.Prelude.{◌⊎◌}
 use Rattle.std.specs.List.{count_by, range_with_len}
-use Rattle.std.proofs.lemmas.List.{map-append}
+use Rattle.std.proofs.lemmas.List.{map-append, length-map, take_at}
+use Rattle.std.proofs.lemmas.List.FromFn.{length-range_with_len}
 use Rattle.std.proofs.lemmas.List.Sums.{sum_by-append}
 use Rattle.std.proofs.lemmas.List.Elements.{filter_map-append}
 use Rattle.esa_params.specs.Sizes.{Sizes, below}
@@ -67,6 +68,17 @@ map-front f m n m_in =
     let sum : m + (n - m) ≡ n = omega arith in
     let more = range_with_len m (n - m) in
     (map f more, ap (λ y. map f (below y)) (sym sum) ∙ ap (map f) (below-add m (n - m)) ∙ map-append f (below m) more)
+
+-- what begins the images of the first numbers is the images of the first of them
+pub image-front : {X : Type 0} (f : ℕ → X) (n : ℕ) (xs : List X) → Begins xs (map f (below n)) → xs ≡ map f (below (length xs))
+image-front f n xs b =
+    let m = length xs in
+    let few : m ≤ n = omega (arith, ap length b.1, length-append xs b.0, length-map (below n) f, length-range_with_len 0 n) in
+    let images = map-front f m n few in
+    let m_long : length (map f (below m)) ≡ m = length-map (below m) f ∙ length-range_with_len 0 m in
+    sym (take_at xs b.0 m refl)
+    ∙ ap (take m) (sym b.1 ∙ images.1)
+    ∙ take_at (map f (below m)) images.0 m m_long
 
 module _ (p : Sizes) (ds : ℕ → Draw) (hs : List (List ℕ)) where
   pub load-begins : Begins (load p) (trace p ds hs)

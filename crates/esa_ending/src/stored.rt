@@ -1,12 +1,12 @@
 //! The turns that were stored give the same accesses as the turns that decide.
 
-ghost use Rattle.std.specs.Prelude.{◌≡◌, ℕ, ◌+◌, ◌<◌, true, Some, List, ◌++◌, length, map, take};
-ghost use Rattle.esa_ending.specs.Endings.{Succeeds, Overflows, IsCutAt};
+ghost use Rattle.std.specs.Prelude.{◌≡◌, ℕ, ◌+◌, ◌<◌, true, Some, List, [], ◌++◌, length, map, take};
+ghost use Rattle.esa_ending.specs.Endings.{Succeeds, Overflows, IsCutAt, BatchFails};
 ghost use Rattle.esa_ending.specs.Seen.{Seen, stored, Begins, EndsWith, AreCut, verdict_in};
 ghost use Rattle.esa_params.specs.Sizes.{Sizes, below};
 ghost use Rattle.esa_params.specs.declared.slot.Access.{Access};
 ghost use Rattle.esa_spec.specs.Draws.{Draw};
-ghost use Rattle.esa_spec.specs.Traces.{all_failed, good_attempt, scan, shuffle_trace, trace};
+ghost use Rattle.esa_spec.specs.Traces.{all_failed, good_attempt, load, scan, shuffle_trace, trace};
 
 /// Turns that were cut short make a front of the accesses. Turns that weren't are cut short nowhere.
 pub fn cut_turns_make_a_front()
@@ -32,7 +32,7 @@ pub fn stored_turns_suffice()
 {}
 
 /// Who knows the accesses by the stored turns, as the shuffler does, knows how the run ended: in success once the
-/// output was scanned twice, in an overflow, or cut short in the shuffle or in a scan.
+/// output was scanned twice, in an overflow, or cut short at an access or in the load.
 pub fn endings_of_stored_turns()
     ensures success { (p : Sizes) (ds : ℕ → Draw) (hs : List (List ℕ)) (seen : Seen) (a : ℕ) → a < p.attempts
         → stored p seen ≡ take (a + 1) hs → good_attempt p ds 0 (stored p seen) ≡ Some a
@@ -44,4 +44,6 @@ pub fn endings_of_stored_turns()
         → EndsWith seen.trace access → Begins seen.trace (trace p ds (stored p seen)) → IsCutAt p ds hs seen access }
     ensures cut_in_shuffle { (p : Sizes) (ds : ℕ → Draw) (hs : List (List ℕ)) (seen : Seen) (access : Access) → AreCut (stored p seen) hs
         → EndsWith seen.trace access → Begins seen.trace (shuffle_trace p ds (stored p seen)) → IsCutAt p ds hs seen access }
+    ensures cut_in_load { (p : Sizes) (seen : Seen) → stored p seen ≡ [] → Begins seen.trace (load p) → length seen.trace < p.b
+        → BatchFails p seen (length seen.trace) }
 {}

@@ -1,3 +1,5 @@
+use Rattle.esa_spec.specs.Traces.{written_input}
+use Rattle.esa_ending.proofs.FrontLaws.{image-front}
 use Rattle.esa_ending.proofs.CutLaws.{cut-at, cut-in-shuffle, overflowed, succeeded}
 use Rattle.esa_ending.proofs.stored.endings_of_stored_turns.Goals as goal
 
@@ -12,3 +14,7 @@ returns-clause-cut c = cut-at
 
 pub returns-clause-cut_in_shuffle : goal.returns-clause-cut_in_shuffle
 returns-clause-cut_in_shuffle c = cut-in-shuffle
+
+pub returns-clause-cut_in_load : goal.returns-clause-cut_in_load
+returns-clause-cut_in_load c = λ p seen none front short.
+    record { there = short; written = image-front (written_input p) p.b seen.trace front; turns = none }
