@@ -1,0 +1,5 @@
+pub mod CompletionLaws
+pub mod CutLaws
+pub mod DecisionLaws
+pub mod FrontLaws
+pub mod OutputLaws

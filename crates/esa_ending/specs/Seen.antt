@@ -1,0 +1,66 @@
+-- What is seen of a run, and the words in which its ends are told.
+use Rattle.std.specs.Prelude.{◌≡◌, ℕ, ◌<◌, ◌/◌, ◌%◌, List, [], ◌∷◌, ◌++◌, length, filter_map, slice_get, slice_index_or}
+use Rattle.esa_params.specs.Sizes.{Sizes, size}
+use Rattle.esa_params.specs.declared.slot.Access.{Access}
+use Rattle.esa_params.specs.declared.slot.Region.{Region}
+use Rattle.esa_params.specs.declared.slot.Region.TheVariants.{Input, Mid, Tail, Output}
+use Rattle.esa_spec.specs.Draws.{Draw}
+use Rattle.esa_spec.specs.Histories.{lists}
+use Rattle.esa_spec.specs.Lines.{backlog, chunk}
+use Rattle.esa_spec.specs.Places.{exchange_of, places}
+use Rattle.esa_spec.specs.Verdicts.{verdict}
+use Rattle.esa_spec.specs.declared.event.Verdict.{Verdict}
+
+-- the accesses that were stored, and the history that was stored
+pub record Seen : Type 0 where
+  pub trace : List Access
+  pub history : List ℕ
+
+-- the turns of each attempt that was made
+abbrev pub stored : Sizes → Seen → List (List ℕ)
+stored p seen = lists p.workers seen.history
+
+-- a list begins another one
+abbrev pub Begins : {X : Type 0} → List X → List X → Type 0
+Begins {X} front whole = (more : List X) × (whole ≡ front ++ more)
+
+-- the list ends with this access
+abbrev pub EndsWith : List Access → Access → Type 0
+EndsWith accesses access = (before : List Access) × (accesses ≡ before ++ access ∷ [])
+
+-- the turns of a run that was cut short: the lists of the attempts before the last are whole, and the last is a front
+abbrev pub AreCut : List (List ℕ) → List (List ℕ) → Type 0
+AreCut [] whole = Unit {0}
+AreCut (h ∷ made) [] = ⊥
+AreCut (h ∷ []) (g ∷ whole) = Begins h g
+AreCut (h ∷ other ∷ made) (g ∷ whole) = (h ≡ g) × AreCut (other ∷ made) whole
+
+-- the turns of attempt a
+abbrev pub turns_in : List (List ℕ) → ℕ → List ℕ
+turns_in hs a = slice_index_or hs a []
+
+-- how attempt a ends
+abbrev pub verdict_in : Sizes → (ℕ → Draw) → List (List ℕ) → ℕ → Verdict
+verdict_in p ds hs a = verdict p (ds a) (turns_in hs a)
+
+-- how many items stand before the dummies in the block of an access, in an attempt with this order of exchanges
+abbrev pub items_at : Sizes → Draw → List ℕ → Region → ℕ → ℕ
+items_at p d o Input index = 0
+items_at p d o Mid index = length (chunk p d o (exchange_of o (index / p.b)) (index % p.b))
+items_at p d o Tail index = backlog p d o p.b index
+items_at p d o Output index = size p index
+
+abbrev pub items_in : Sizes → Draw → List ℕ → Access → ℕ
+items_in p d o access = items_at p d o access.region access.index
+
+-- the records of a batch in the order in which an attempt with these turns puts them out
+abbrev pub come_out : {X : Type 0} → Sizes → Draw → List ℕ → List X → List X
+come_out p d h records = filter_map (slice_get records) (places p d h)
+
+-- the draws agree on the targets of each bucket
+abbrev pub SameTargets : Sizes → Draw → Draw → Type 0
+SameTargets p d e = (j : ℕ) → j < p.b → d.targets j ≡ e.targets j
+
+-- the draws agree on the order of each target
+abbrev pub SameOrders : Sizes → Draw → Draw → Type 0
+SameOrders p d e = (i : ℕ) → i < p.b → d.order i ≡ e.order i

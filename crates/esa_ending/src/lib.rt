@@ -1,0 +1,14 @@
+//! How a run ends: for each ending a record of what is seen, and the laws that follow.
+//!
+//! The definitions of `specs/` say, of a run that succeeded, overflowed, met a fault of the device, a tampered block or
+//! a fault of the batch file, which accesses and which history are stored, and in which order the records come out.
+//! Each law is what a function with an empty body ensures. This crate stands on the definitions of a shuffle and their
+//! laws alone, and takes no memory.
+#![tactic(auto)]
+
+#[cfg(test)]
+mod cases;
+pub mod decisions;
+pub mod fronts;
+pub mod outputs;
+pub mod stored;
