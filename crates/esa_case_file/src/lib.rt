@@ -5,6 +5,7 @@
 //! compares each with what it says.
 #![tactic(auto)]
 
+mod each;
 mod piece;
 mod reader;
 mod statement;
@@ -44,6 +45,8 @@ pub struct Run {
 #[derive(Drop)]
 pub struct Case {
     pub name: String,
+    /// Whether other cases follow that the same lines state for other numbers.
+    pub followed: bool,
     /// The files before the first call.
     pub files: Vec<File>,
     /// The numbers of the cabinet's calls that fail, from 1 on.

@@ -1,5 +1,6 @@
 //! Reads a file of cases, line by line.
 
+use crate::each::Each;
 use crate::piece::{add_piece, add_text};
 use crate::statement::{add_fails, split_word, status};
 use crate::wrong::{Mistake, Wrong};
@@ -12,14 +13,19 @@ pub fn read_cases(alloc: Global, text: &str) -> Result<Vec<Case>, Mistake> {
     let mut line = 0usize;
     for words in text.lines() {
         line = line.saturating_add(1);
-        if let Err(wrong) = reader.take(words) {
+        if let Err(wrong) = reader.read(words) {
             return Err(Mistake { line, wrong });
         }
     }
-    match reader.end_block() {
+    match reader.end() {
         Ok(()) => Ok(reader.cases),
         Err(wrong) => Err(Mistake { line, wrong }),
     }
+}
+
+/// Whether a line that begins with this word begins something new.
+fn is_head(word: &str) -> bool {
+    matches!(word, "bytes" | "setting" | "case" | "each")
 }
 
 /// Files that several cases begin with.
@@ -49,6 +55,10 @@ struct Reader {
     settings: Vec<Setting>,
     cases: Vec<Case>,
     open: Open,
+    /// The case that is there once for each of several numbers, while its lines are read.
+    each: Option<Each>,
+    /// Whether the cases that begin now are followed by others of their `each`.
+    followed: bool,
 }
 
 impl Reader {
@@ -59,15 +69,86 @@ impl Reader {
             settings: Vec::new(alloc),
             cases: Vec::new(alloc),
             open: Open::Nothing,
+            each: None,
+            followed: false,
         }
     }
 
-    /// Takes the next line.
-    fn take(&mut self, line: &str) -> Result<(), Wrong> {
+    /// Reads the next line.
+    fn read(&mut self, line: &str) -> Result<(), Wrong> {
         let line = line.trim_ascii_start();
         if line.is_empty() || line.starts_with('#') {
             return Ok(());
         }
+        let (word, rest) = split_word(line);
+        if is_head(word) && !self.awaits_case() {
+            self.repeat()?;
+        }
+        if word == "each" {
+            return self.begin_each(rest);
+        }
+        self.read_first(word, line)
+    }
+
+    /// Whether the last line was an `each`, so that its case follows.
+    fn awaits_case(&self) -> bool {
+        match &self.each {
+            Some(each) => each.is_empty(),
+            None => false,
+        }
+    }
+
+    fn begin_each(&mut self, range: &str) -> Result<(), Wrong> {
+        if self.awaits_case() {
+            return Err(Wrong::Place);
+        }
+        self.end_block()?;
+        let each = Each::read(self.alloc, range)?;
+        self.followed = each.has_later();
+        self.each = Some(each);
+        Ok(())
+    }
+
+    /// Takes a line, with the first number in it where its case is there for several.
+    fn read_first(&mut self, word: &str, line: &str) -> Result<(), Wrong> {
+        if self.awaits_case() && word != "case" {
+            return Err(Wrong::Place);
+        }
+        let text = match &mut self.each {
+            Some(each) => each.add(line)?,
+            None => return self.take(line),
+        };
+        self.take(text.as_str())
+    }
+
+    /// Reads the case that ends here once more for each later number that it is there for.
+    fn repeat(&mut self) -> Result<(), Wrong> {
+        self.followed = false;
+        let Some(each) = self.each.take() else {
+            return Ok(());
+        };
+        for number in each.later() {
+            self.followed = number < each.last();
+            let lines = each.with_number(number)?;
+            for line in &lines {
+                self.take(line.as_str())?;
+            }
+        }
+        self.followed = false;
+        Ok(())
+    }
+
+    /// Ends the file.
+    fn end(&mut self) -> Result<(), Wrong> {
+        if self.awaits_case() {
+            return Err(Wrong::Place);
+        }
+        self.repeat()?;
+        self.end_block()
+    }
+
+    /// Takes a line.
+    fn take(&mut self, line: &str) -> Result<(), Wrong> {
         let (word, rest) = split_word(line);
         match word {
             "bytes" => self.begin_bytes(rest),
@@ -128,6 +209,7 @@ impl Reader {
         }
         let case = Case {
             name: name_of(self.alloc, name)?,
+            followed: self.followed,
             files: Vec::new(self.alloc),
             cabinet_fails: Vec::new(self.alloc),
             printer_fails: Vec::new(self.alloc),

@@ -11,7 +11,7 @@ mod readers;
 mod run;
 
 use anyhow::{Result, ensure};
-use esa_case_file::read_cases;
+use esa_case_file::{Case, read_cases};
 use run::run_case;
 use std::alloc::Global;
 use std::rt::{Env, Files};
@@ -46,7 +46,7 @@ fn run_file(
         Ok(cases) => {
             for case in &cases {
                 let differences = run_case(rt.alloc(), case)?;
-                tell(rt, counts, file, case.name.as_str(), &differences)?;
+                tell(rt, counts, file, case, &differences)?;
             }
         }
         Err(mistake) => {
@@ -57,17 +57,21 @@ fn run_file(
     Ok(())
 }
 
-/// Counts a case, and prints what differs in it.
+/// Counts a case, and prints what differs in it. Of cases that the same lines state, all as they say, only the last has
+/// a line.
 fn tell(
     rt: &impl Print,
     counts: &mut Counts,
     file: &str,
-    name: &str,
+    case: &Case,
     differences: &[String],
 ) -> Result<()> {
+    let name = case.name.as_str();
     if differences.is_empty() {
         counts.ok = counts.ok.saturating_add(1);
-        println!(rt; "{file}: {name}: ok")?;
+        if !case.followed {
+            println!(rt; "{file}: {name}: ok")?;
+        }
         return Ok(());
     }
     counts.differ = counts.differ.saturating_add(1);

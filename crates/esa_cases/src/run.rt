@@ -70,7 +70,7 @@ fn judge_run(
     )
 }
 
-/// Adds what differs in the files that the case may have.
+/// Adds what differs in the files, be they wanted or there.
 fn judge_files(
     alloc: Global,
     differences: &mut Vec<String>,
@@ -80,45 +80,18 @@ fn judge_files(
     let mut wanted = MemCabinet::make(Vec::new(alloc), Vec::new(alloc));
     put_all(&mut wanted, &case.files)?;
     put_all(&mut wanted, &case.left)?;
-    for name in &names_of(alloc, case)? {
+    for (name, has) in cabinet.files() {
+        let name = name.as_str();
         add(
             differences,
-            difference(alloc, name, cabinet.file(name), wanted.file(name))?,
+            difference(alloc, name, Some(has), wanted.file(name))?,
         )?;
     }
-    Ok(())
-}
-
-/// The names of the files that a case may have, each once: those that are there before, those that the case leaves,
-/// and those that the files name between quotation marks, as a job does each file that its command writes.
-fn names_of(alloc: Global, case: &Case) -> Result<Vec<&str>, AllocError> {
-    let mut names = Vec::new(alloc);
-    for file in &case.files {
-        add_name(&mut names, file.name.as_str())?;
-        add_quoted(&mut names, &file.bytes)?;
-    }
-    for file in &case.left {
-        add_name(&mut names, file.name.as_str())?;
-    }
-    Ok(names)
-}
-
-/// Adds the names that bytes hold between quotation marks. A name has at most 255 bytes.
-fn add_quoted<'a>(names: &mut Vec<&'a str>, bytes: &'a [u8]) -> Result<(), AllocError> {
-    for part in bytes.split(|byte| *byte == b'"') {
-        if part.len() <= 255 {
-            if let Ok(name) = str::from_utf8(part) {
-                add_name(names, name)?;
-            }
+    for (name, wants) in wanted.files() {
+        let name = name.as_str();
+        if cabinet.file(name).is_none() {
+            add(differences, difference(alloc, name, None, Some(wants))?)?;
         }
-    }
-    Ok(())
-}
-
-/// Adds a name that isn't there yet.
-fn add_name<'a>(names: &mut Vec<&'a str>, name: &'a str) -> Result<(), AllocError> {
-    if !names.contains(&name) {
-        names.push(name)?;
     }
     Ok(())
 }
