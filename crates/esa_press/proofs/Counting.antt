@@ -1,31 +1,30 @@
 -- How many items the parts of an import have.
-use Rattle.std.proofs.Common.{◌≡◌, ◌≢◌, ℕ, zero, suc, ◌+◌, ◌-◌, ◌*◌, ◌/◌, ◌%◌, ◌<◌, ◌≤◌, ◌==◌, Bool, true, false, cond, List, [], ◌∷◌, ◌++◌, length, get_or, map, sum, Option, Some, None, refl, sym, ap, ◌∙◌, subst, arith, length-append, length-take, inl, inr}
-use Rattle.std.specs.Prelude.{slice_index, sum_by, nat_lt}
-use Rattle.std.proofs.lemmas.Bool.{cases_lt, lt-ltb, le-ltb}
+use Rattle.std.proofs.Common.{◌≡◌, ℕ, ◌+◌, ◌*◌, ◌/◌, ◌<◌, ◌≤◌, ◌==◌, List, [], ◌∷◌, ◌++◌, length, get_or, map, sum, refl, sym, ap, ◌∙◌, arith, length-take, inl, inr}
+use Rattle.std.specs.Prelude.{slice_index, sum_by}
+use Rattle.std.proofs.lemmas.Bool.{cases_lt}
 use Rattle.std.proofs.lemmas.List.{get_or_append_left, get_or_at, length-map}
 use Rattle.std.proofs.lemmas.Nat.{div-mul-add, mod-mul-add}
-use Rattle.std.proofs.lemmas.List.FromFn.{get_or-map-range_with_len, length-map-range_with_len, length-range_with_len}
+use Rattle.std.proofs.lemmas.List.FromFn.{get_or-map-range_with_len, length-map-range_with_len}
 use Rattle.std.proofs.lemmas.List.Sums.{sum-map, sum_by-append, sum_by-cons}
 use Rattle.esa_compress.specs.Imported.{parts_of}
 use Rattle.esa_floor.specs.Parts.{count_at}
-use Rattle.esa_floor.specs.Standing.{items_at, items_in}
+use Rattle.esa_floor.specs.Standing.{items_in}
 use Rattle.esa_laws.proofs.FinishLaws.{none-found}
 use Rattle.esa_laws.proofs.PlaceLaws.{position-in}
 use Rattle.esa_laws.proofs.QueueLaws.{batch, leaving-more}
 use Rattle.esa_laws.proofs.Ranges.{sum-below-same}
 use Rattle.esa_laws.proofs.Tests.{not_above}
-use Rattle.esa_laws.proofs.TotalLaws.{all-exchanged, once}
+use Rattle.esa_laws.proofs.TotalLaws.{once}
 use Rattle.esa_params.specs.Sizes.{Sizes, below}
-use Rattle.esa_params.specs.Slots.{access_of, at}
+use Rattle.esa_params.specs.Slots.{access_of}
 use Rattle.esa_params.specs.declared.slot.Op.TheVariants.{Read as Reads}
-use Rattle.esa_params.specs.declared.slot.Region.TheVariants.{Mid, Tail}
 use Rattle.esa_params.specs.declared.slot.Slot.{Slot}
 use Rattle.esa_spec.specs.Draws.{Draw}
 use Rattle.esa_spec.specs.Lines.{backlog, batches, chosen_places, chunk}
 use Rattle.esa_spec.specs.Places.{exchange_of}
 use Rattle.esa_spec.specs.Queue.{queue}
-use Rattle.esa_spec.specs.Turns.{order, writes}
-use Rattle.esa_spec.specs.Verdicts.{is_left, left}
+use Rattle.esa_spec.specs.Turns.{order}
+use Rattle.esa_spec.specs.Verdicts.{is_left}
 use Rattle.esa_press.specs.Fetched.{part_slot}
 use Rattle.esa_press.specs.Stepped.{AreCounted, parts_counted}
 use Rattle.esa_press.proofs.Fetching.{part_is_chunk, part_is_tail}

@@ -1,19 +1,19 @@
 -- The steps of a compression, one after another.
-use Rattle.std.proofs.Common.{◌≡◌, ◌≢◌, ℕ, zero, suc, ◌+◌, ◌-◌, ◌<◌, ◌≤◌, Bool, true, false, cond, List, [], ◌∷◌, ◌++◌, length, take, drop, map, sum, Option, Some, None, Result, Ok, Err, refl, sym, ap, ◌∙◌, subst, arith, append-nil, append_assoc, length-append}
+use Rattle.std.proofs.Common.{◌≡◌, ℕ, zero, suc, ◌+◌, ◌-◌, ◌<◌, ◌≤◌, Bool, true, false, cond, List, [], ◌∷◌, ◌++◌, length, take, drop, map, sum, Option, Result, Ok, Err, refl, sym, ap, ◌∙◌, subst, arith, append-nil, append_assoc, length-append, add-zero}
 use Rattle.std.specs.Prelude.{nat_lt}
-use Rattle.std.proofs.lemmas.Bool.{cases_lt, lt-ltb, le-ltb}
-use Rattle.std.proofs.lemmas.List.{length-map, take-append-drop, take_all}
+use Rattle.std.proofs.lemmas.Bool.{lt-ltb, le-ltb}
+use Rattle.std.specs.List.{range_with_len}
+use Rattle.esa_laws.proofs.Ranges.{range-suc}
+use Rattle.std.proofs.lemmas.List.{length-map, map-append, take-append-drop, take_all}
 use Rattle.std.proofs.lemmas.List.FromFn.{length-range_with_len}
 use Rattle.esa_compress.proofs.ImportLaws.{few-reached, import-counted, put-counted, waiting-more}
 use Rattle.esa_compress.specs.Imported.{parts_of}
-use Rattle.esa_device.specs.Logs.{slot_number}
 use Rattle.esa_device.specs.Recording.{Recorded}
 use Rattle.esa_envelope.specs.declared.keys.Keys.{Keys}
 use Rattle.esa_floor.specs.Standing.{items_in}
 use Rattle.esa_laws.proofs.WalkLaws.{steps_verdict, steps_verdict-append, walk-append}
-use Rattle.esa_outside.specs.Cause.{Rose}
 use Rattle.esa_params.specs.Sizes.{Sizes, below, first, size}
-use Rattle.esa_params.specs.Slots.{access_of, at, number_of}
+use Rattle.esa_params.specs.Slots.{access_of, at}
 use Rattle.esa_params.specs.declared.slot.Access.{Access}
 use Rattle.esa_params.specs.declared.slot.Op.{Op}
 use Rattle.esa_params.specs.declared.slot.Op.TheVariants.{Read as Reads, Write as Writes}
@@ -26,7 +26,6 @@ use Rattle.esa_spec.specs.Verdicts.{Step, Import, Put, first_bad, imported, is_g
 use Rattle.esa_spec.specs.declared.event.Verdict.{Verdict}
 use Rattle.esa_spec.specs.declared.event.Verdict.TheVariants as verdict
 use Rattle.esa_vault.specs.Seals.{opens}
-use Rattle.esa_vault.specs.declared.fault.VaultFault.{VaultFault}
 use Rattle.esa_vault.specs.declared.fault.VaultFault.TheVariants.{Device, Tampered}
 use Rattle.esa_press.specs.Fetched.{part_slot}
 use Rattle.esa_press.specs.Pressed.{ImportAnswer, Pressed, PutAnswer}
@@ -39,6 +38,17 @@ use Rattle.esa_press.proofs.Fetching.{one_read_more, read_part}
 no-more : (c : Bool) → cond {A = List Access} c [] [] ≡ []
 no-more true = refl
 no-more false = refl
+
+-- a list of numbers in two parts
+range-add : (a m n : ℕ) → range_with_len a (m + n) ≡ range_with_len a m ++ range_with_len (a + m) n
+range-add a m zero = ap (range_with_len a) (add-zero m) ∙ sym (append-nil (range_with_len a m))
+range-add a m (suc n) =
+    let next : m + suc n ≡ suc (m + n) = omega arith in
+    let last : a + (m + n) ≡ a + m + n = omega arith in
+    ap (range_with_len a) next ∙ range-suc a (m + n) ∙ ap (λ (l : List ℕ). l ++ (a + (m + n)) ∷ []) (range-add a m n)
+    ∙ append_assoc (range_with_len a m) (range_with_len (a + m) n) ((a + (m + n)) ∷ [])
+    ∙ ap (λ (k : ℕ). range_with_len a m ++ (range_with_len (a + m) n ++ k ∷ [])) last
+    ∙ ap (λ (l : List ℕ). range_with_len a m ++ l) (sym (range-suc (a + m) n))
 
 length-reads : (p : Sizes) (a i : ℕ) → length (import_reads p a i) ≡ p.b + 1
 length-reads p a i =
@@ -73,8 +83,7 @@ module _ {V : Type 0} (faults : V → ℕ) (p : Sizes) (keys : Keys) (d : Draw) 
     made_more xs ys old mid new done (Err (halt.Fault fault)) one other =
         let front = other.0 in
         let access = other.1 in
-        let rest = other.2 in
-        (
+        let rest = other.2 in (
           walk p d a xs ++ front,
           access,
           rest,
@@ -89,8 +98,7 @@ module _ {V : Type 0} (faults : V → ℕ) (p : Sizes) (keys : Keys) (d : Draw) 
     pub made_bad : (xs ys : List Step) (old new : Recorded V) (stop : Halt) → AreMade {T = Unit {0}} faults p keys d o a xs old new (Err stop)
         → AreMade {T = Unit {0}} faults p keys d o a (xs ++ ys) old new (Err stop)
     made_bad xs ys old new (halt.Verdict v) made =
-        let bad : is_good (steps_verdict p d xs) ≡ false = ap is_good made.0 ∙ made.1 in
-        (
+        let bad : is_good (steps_verdict p d xs) ≡ false = ap is_good made.0 ∙ made.1 in (
           steps_verdict-append p d xs ys ∙ ap (λ (c : Bool). cond c (steps_verdict p d ys) (steps_verdict p d xs)) bad ∙ made.0,
           made.1,
           made.2 ∙ ap (λ (l : List Access). old.trace ++ l)
@@ -98,8 +106,7 @@ module _ {V : Type 0} (faults : V → ℕ) (p : Sizes) (keys : Keys) (d : Draw) 
           made.3,
         )
     made_bad xs ys old new (halt.Fault fault) made =
-        let more = cond (is_good (steps_verdict p d xs)) (walk p d a ys) [] in
-        (
+        let more = cond (is_good (steps_verdict p d xs)) (walk p d a ys) [] in (
           made.0,
           made.1,
           made.2 ++ more,
@@ -147,16 +154,14 @@ module _ {V : Type 0} (faults : V → ℕ) (p : Sizes) (keys : Keys) (d : Draw) 
         → AreMade faults p keys d (order p.b h) a (Import j i ∷ []) old new result
     import_one old new (Ok done) answer =
         let good = verdict_is ∙ ap (λ (c : Bool). cond c (verdict.QueueOverflow i) verdict.Good) (le-ltb p.q (length queue + sum parts) answer.0) in
-        let fetched = answer.1 in
-        (
+        let fetched = answer.1 in (
           ap (λ (v : Verdict). first_bad (v ∷ [])) good,
           fetched.trace ∙ ap (λ (l : List Access). old.trace ++ l) (whole fetched.made fetched.answer.0),
           fetched.answer.1,
         )
     import_one old new (Err (halt.Verdict v)) answer =
         let bad = verdict_is ∙ ap (λ (c : Bool). cond c (verdict.QueueOverflow i) verdict.Good) (lt-ltb p.q (length queue + sum parts) answer.1) in
-        let fetched = answer.2 in
-        (
+        let fetched = answer.2 in (
           ap (λ (v : Verdict). first_bad (v ∷ [])) bad ∙ sym answer.0,
           ap is_good answer.0,
           fetched.trace ∙ ap (λ (l : List Access). old.trace ++ l) (whole fetched.made fetched.answer.0),
@@ -165,8 +170,7 @@ module _ {V : Type 0} (faults : V → ℕ) (p : Sizes) (keys : Keys) (d : Draw) 
     import_one old new (Err (halt.Fault (Device number))) answer =
         let few = answer.few in
         let made = answer.answer.1 in
-        let inside : answer.answer.0 < p.b + 1 = omega (arith, few, made) in
-        (
+        let inside : answer.answer.0 < p.b + 1 = omega (arith, few, made) in (
           take answer.answer.0 reads,
           read_part p a i answer.answer.0,
           drop (answer.answer.0 + 1) reads,
@@ -178,8 +182,7 @@ module _ {V : Type 0} (faults : V → ℕ) (p : Sizes) (keys : Keys) (d : Draw) 
         let few = answer.few in
         let made = answer.answer.1 in
         let x = answer.answer.0 in
-        let inside : x < p.b + 1 = omega (arith, few, made) in
-        (
+        let inside : x < p.b + 1 = omega (arith, few, made) in (
           take x reads,
           read_part p a i x,
           drop (x + 1) reads,
@@ -215,8 +218,7 @@ module _ {V : Type 0} (faults : V → ℕ) (p : Sizes) (keys : Keys) (d : Draw) 
       answer.2.answer,
     )
     put_one old new (Err (halt.Verdict v)) answer =
-        let starved = put_is ∙ ap (λ (c : Bool). cond c (verdict.QueueStarved j) verdict.Good) (lt-ltb (length queue) (size p j) answer.1) in
-        (
+        let starved = put_is ∙ ap (λ (c : Bool). cond c (verdict.QueueStarved j) verdict.Good) (lt-ltb (length queue) (size p j) answer.1) in (
           ap (λ (v : Verdict). first_bad (v ∷ [])) starved ∙ sym answer.0,
           ap is_good answer.0,
           ap (λ (r : Recorded V). r.trace) answer.3 ∙ sym (append-nil old.trace) ∙ ap (λ (l : List Access). old.trace ++ l) (sym (walked (verdict.QueueStarved j) starved)),
@@ -242,3 +244,34 @@ module _ {V : Type 0} (faults : V → ℕ) (p : Sizes) (keys : Keys) (d : Draw) 
       (subst (λ (xs : List ℕ). ImportAnswer faults p keys a i xs w.queue old new result) parts
       (subst (λ (k : Keys). ImportAnswer faults p k a i w.counts w.queue old new result) run
       (subst (λ (q : Sizes). ImportAnswer faults q w.run a i w.counts w.queue old new result) plan answer)))
+
+-- an import keeps the plan of the recorder, and makes so many accesses at most
+pub import_keeps : {V : Type 0} (faults : V → ℕ) (p : Sizes) (keys : Keys) (a i : ℕ) (counts : List ℕ) (queue : List Item) (old new : Recorded V) (result : Result (Unit {0}) Halt)
+    → ImportAnswer faults p keys a i counts queue old new result → (new.plan ≡ old.plan) × (old.room ≤ new.room + (p.b + 1))
+import_keeps faults p keys a i counts queue old new (Ok done) answer =
+    (answer.1.plan, let few = answer.1.few in let room = answer.1.room in omega (arith, few, room))
+import_keeps faults p keys a i counts queue old new (Err (halt.Verdict v)) answer =
+    (answer.2.plan, let few = answer.2.few in let room = answer.2.room in omega (arith, few, room))
+import_keeps faults p keys a i counts queue old new (Err (halt.Fault fault)) answer =
+    (answer.plan, let few = answer.few in let room = answer.room in omega (arith, few, room))
+
+-- one import more of those of an output bucket
+module _ {V : Type 0} (faults : V → ℕ) (p : Sizes) (keys : Keys) (d : Draw) (o : List ℕ) (a j from n : ℕ) where
+  next_is : map (Import j) (range_with_len from (suc n)) ≡ map (Import j) (range_with_len from n) ++ Import j (from + n) ∷ []
+  next_is = ap (map (Import j)) (range-suc from n) ∙ map-append (Import j) (range_with_len from n) ((from + n) ∷ [])
+
+  pub made_import : (old mid new : Recorded V) (done : Unit {0}) (result : Result (Unit {0}) Halt) → AreMade faults p keys d o a (map (Import j) (range_with_len from n)) old mid (Ok done)
+      → AreMade faults p keys d o a (Import j (from + n) ∷ []) mid new result → AreMade faults p keys d o a (map (Import j) (range_with_len from (suc n))) old new result
+  made_import old mid new done result so_far one =
+      subst (λ (xs : List Step). AreMade faults p keys d o a xs old new result) (sym next_is)
+      (made_more faults p keys d a o (map (Import j) (range_with_len from n)) (Import j (from + n) ∷ []) old mid new done result so_far one)
+
+  pub made_imports_bad : (m : ℕ) (old new : Recorded V) (stop : Halt) → n ≤ m → AreMade {T = Unit {0}} faults p keys d o a (map (Import j) (range_with_len from n)) old new (Err stop)
+      → AreMade {T = Unit {0}} faults p keys d o a (map (Import j) (range_with_len from m)) old new (Err stop)
+  made_imports_bad m old new stop within made =
+      let rest : m ≡ n + (m - n) = omega arith in
+      let is : map (Import j) (range_with_len from m) ≡ map (Import j) (range_with_len from n) ++ map (Import j) (range_with_len (from + n) (m - n)) =
+      ap (λ (k : ℕ). map (Import j) (range_with_len from k)) rest ∙ ap (map (Import j)) (range-add from n (m - n))
+      ∙ map-append (Import j) (range_with_len from n) (range_with_len (from + n) (m - n)) in
+      subst (λ (xs : List Step). AreMade {T = Unit {0}} faults p keys d o a xs old new (Err stop)) (sym is)
+      (made_bad faults p keys d a o (map (Import j) (range_with_len from n)) (map (Import j) (range_with_len (from + n) (m - n))) old new stop made)

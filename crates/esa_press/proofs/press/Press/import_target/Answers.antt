@@ -1,4 +1,4 @@
-use Rattle.std.proofs.Common.{◌≡◌, ◌+◌, ◌-◌, ◌≤◌, ℕ, List, length, sum, sym, ap, ◌∙◌, subst, arith}
+use Rattle.std.proofs.Common.{◌≡◌, ◌+◌, ℕ, List, length, sum, ap, ◌∙◌, subst, arith}
 use Rattle.std.specs.Prelude.{slice_index}
 use Rattle.esa_floor.specs.Standing.{turns_made}
 use Rattle.esa_params.specs.Sizes.{Sizes}
@@ -7,7 +7,7 @@ use Rattle.esa_press.specs.Pressed.{ImportAnswer, Pressed}
 use Rattle.esa_press.specs.Stepped.{parts_counted}
 use Rattle.esa_press.proofs.Counting.{parts_few, tail_few}
 use Rattle.esa_press.proofs.Fetching.{on_ok}
-use Rattle.esa_press.proofs.Stepping.{import_made, waits_few, waits_more}
+use Rattle.esa_press.proofs.Stepping.{import_keeps, import_made, waits_few, waits_more}
 use Rattle.esa_press.proofs.press.Press.import_target.Goals as goal
 
 pub import-requires-clause-all : goal.import-requires-clause-all
@@ -68,3 +68,15 @@ returns-clause-waits g c =
     ∙ ap (λ (n : ℕ). n + sum c.count.new.self.counts) (ap (λ (x : Pressed). length x.queue) c.count.ensures)
     ∙ ap (λ (n : ℕ). length w.queue + n) (ap (λ (x : Pressed). sum x.counts) c.count.ensures ∙ ap (λ (q : Sizes). sum (parts_counted q f.counts w.tails i)) c.requires.plan)
     ∙ waits_more g.V.Device.faults f.plan f.run (g.G.Told.draws c.args.attempt) c.args.attempt (turns_made f) f.counts w.tails c.requires.counted c.args.output i c.requires.target c.requires.put w.queue c.requires.waits)
+
+pub returns-clause-ready : goal.returns-clause-ready
+returns-clause-ready g c =
+    (import_keeps g.V.Device.faults c.count.new.self.plan c.count.new.self.run c.args.attempt c.args.target c.count.new.self.counts c.count.new.self.queue c.recorder.result.now c.import.new.recorder c.import.result c.import.ensures.answer).0
+    ∙ ap (λ (r : Recorded _). r.plan) c.recorder.ensures.value
+
+pub returns-clause-used : goal.returns-clause-used
+returns-clause-used g c =
+    let keeps = (import_keeps g.V.Device.faults c.count.new.self.plan c.count.new.self.run c.args.attempt c.args.target c.count.new.self.counts c.count.new.self.queue c.recorder.result.now c.import.new.recorder c.import.result c.import.ensures.answer).1 in
+    let room = ap (λ (r : Recorded _). r.room) c.recorder.ensures.value in
+    let same = ap (λ (x : Pressed). x.plan.b) c.count.ensures ∙ ap (λ (q : Sizes). q.b) c.requires.plan in
+    omega (arith, keeps, room, same)
