@@ -1,9 +1,10 @@
 -- The steps of a compression, one after another.
-use Rattle.std.proofs.Common.{◌≡◌, ℕ, zero, suc, ◌+◌, ◌-◌, ◌<◌, ◌≤◌, Bool, true, false, cond, List, [], ◌∷◌, ◌++◌, length, take, drop, map, sum, Option, Result, Ok, Err, refl, sym, ap, ◌∙◌, subst, arith, append-nil, append_assoc, length-append, add-zero}
+use Rattle.std.proofs.Common.{◌≡◌, ℕ, zero, suc, ◌+◌, ◌-◌, ◌<◌, ◌≤◌, Bool, true, false, cond, List, [], ◌∷◌, ◌++◌, length, take, drop, map, sum, Option, Result, Ok, Err, refl, sym, ap, ◌∙◌, subst, arith, append-nil, append_assoc, length-append, length-drop, add-zero, OnOk}
 use Rattle.std.specs.Prelude.{nat_lt}
 use Rattle.std.proofs.lemmas.Bool.{lt-ltb, le-ltb}
 use Rattle.std.specs.List.{range_with_len}
 use Rattle.esa_laws.proofs.Ranges.{range-suc}
+use Rattle.esa_laws.proofs.SizeLaws.{first-more}
 use Rattle.std.proofs.lemmas.List.{length-map, map-append, take-append-drop, take_all}
 use Rattle.std.proofs.lemmas.List.FromFn.{length-range_with_len}
 use Rattle.esa_compress.proofs.ImportLaws.{few-reached, import-counted, put-counted, waiting-more}
@@ -275,3 +276,24 @@ module _ {V : Type 0} (faults : V → ℕ) (p : Sizes) (keys : Keys) (d : Draw) 
       ∙ map-append (Import j) (range_with_len from n) (range_with_len (from + n) (m - n)) in
       subst (λ (xs : List Step). AreMade {T = Unit {0}} faults p keys d o a xs old new (Err stop)) (sym is)
       (made_bad faults p keys d a o (map (Import j) (range_with_len from n)) (map (Import j) (range_with_len (from + n) (m - n))) old new stop made)
+
+-- a put keeps the plan of the recorder, makes one access at most, and takes the front of the queue
+pub put_keeps : {V : Type 0} (told : V → Option (List (List ℕ))) (faults : V → ℕ) (last_call : V → Option (Op × ℕ)) (p : Sizes) (keys : Keys) (a j : ℕ) (queue rest : List Item) (old new : Recorded V) (result : Result (Unit {0}) Halt)
+    → PutAnswer told faults last_call p keys a j queue rest old new result → (new.plan ≡ old.plan) × (old.room ≤ new.room + 1)
+put_keeps told faults last_call p keys a j queue rest old new (Ok done) answer =
+    (answer.2.recorded.plan, let room = answer.2.recorded.room in omega (arith, room))
+put_keeps told faults last_call p keys a j queue rest old new (Err (halt.Verdict v)) answer =
+    (ap (λ (r : Recorded _). r.plan) answer.3, let room = ap (λ (r : Recorded _). r.room) answer.3 in omega (arith, room))
+put_keeps told faults last_call p keys a j queue rest old new (Err (halt.Fault fault)) answer =
+    (answer.2.recorded.plan, let room = answer.2.recorded.room in omega (arith, room))
+
+-- what is put out then, and what waits
+pub put_waits : {V : Type 0} (told : V → Option (List (List ℕ))) (faults : V → ℕ) (last_call : V → Option (Op × ℕ)) (p : Sizes) (d : Draw) (keys : Keys) (a j : ℕ) (queue rest : List Item) (old new : Recorded V) (n : ℕ) (result : Result (Unit {0}) Halt)
+    → PutAnswer told faults last_call p keys a j queue rest old new result → first p j ≤ n → length queue ≡ n - first p j
+    → OnOk result ((first p (j + 1) ≤ n) × (length rest ≡ n - first p (j + 1)))
+put_waits told faults last_call p d keys a j queue rest old new n (Ok done) answer put waits =
+    let enough = answer.0 in
+    let next = first-more p j in
+    let left = ap length answer.1 ∙ length-drop (size p j) queue in
+    (omega (arith, enough, next, put, waits), omega (arith, enough, next, put, waits, left))
+put_waits told faults last_call p d keys a j queue rest old new n (Err stop) answer put waits = tt
