@@ -1,4 +1,6 @@
+pub mod Counting
 pub mod Draining
 pub mod Fetching
 pub mod Moving
 pub mod Opened
+pub mod Stepping

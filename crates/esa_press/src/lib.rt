@@ -6,6 +6,7 @@
 //! Only `make` takes memory.
 #![tactic(auto)]
 
+mod compress;
 mod drain;
 mod fetch;
 mod halt;

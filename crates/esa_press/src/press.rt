@@ -122,6 +122,13 @@ impl Press {
         )
     }
 
+    /// Leaves the window without items.
+    pub(crate) fn clear(&mut self)
+        ensures { self.new ≡ record self.old { queue = [] } }
+    {
+        self.window.clear();
+    }
+
     /// Notes how many items each part of the import of a target has.
     pub(crate) fn count<V: Device, G: Told>(&mut self, floor: &Floor<V, G>, target: u32)
         requires plan { self.old.plan ≡ floor.now.plan }

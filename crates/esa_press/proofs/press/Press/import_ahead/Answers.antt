@@ -1,0 +1,147 @@
+use Rattle.std.proofs.Common.{◌≡◌, ◌+◌, ◌-◌, ◌*◌, ◌≤◌, ℕ, suc, [], ◌∷◌, Ok, Err, Some, map, refl, sym, ap, ◌∙◌, subst, arith}
+use Rattle.std.specs.List.{range_with_len}
+use Rattle.std.proofs.Math.Nat.{mul-le-mul_right}
+use Rattle.esa_compress.proofs.ImportLaws.{climbs}
+use Rattle.esa_floor.specs.Parts.{Parts}
+use Rattle.esa_floor.specs.Standing.{turns_made}
+use Rattle.esa_params.specs.Sizes.{Sizes, first}
+use Rattle.esa_spec.specs.Turns.{order}
+use Rattle.esa_spec.specs.Verdicts.{Import, reached}
+use Rattle.esa_press.specs.Pressed.{Pressed}
+use Rattle.esa_press.specs.Stepped.{AreCounted, AreMade}
+use Rattle.esa_press.proofs.Stepping.{made_import, made_imports_bad, made_none}
+use Rattle.esa_press.proofs.press.Press.import_ahead.Goals as goal
+
+pub import_target-requires-clause-plan : goal.import_target-requires-clause-plan
+import_target-requires-clause-plan g c =
+    let inv = c.loop-target.invariant in
+    ap (λ (w : Pressed). w.plan) inv.others ∙ c.requires.plan ∙ sym (ap (λ (f : Parts _). f.plan) inv.floor)
+
+pub import_target-requires-clause-run : goal.import_target-requires-clause-run
+import_target-requires-clause-run g c =
+    let inv = c.loop-target.invariant in
+    ap (λ (w : Pressed). w.run) inv.others ∙ c.requires.run ∙ sym (ap (λ (f : Parts _). f.run) inv.floor)
+
+pub import_target-requires-clause-coins : goal.import_target-requires-clause-coins
+import_target-requires-clause-coins g c = c.requires.coins ∙ sym (ap (λ (f : Parts _). f.plan) c.loop-target.invariant.floor)
+
+pub import_target-requires-clause-attempt : goal.import_target-requires-clause-attempt
+import_target-requires-clause-attempt g c =
+    let same : c.loop-target.floor.plan.attempts ≡ c.args.floor.now.plan.attempts = ap (λ (f : Parts _). f.plan.attempts) c.loop-target.invariant.floor in
+    omega (arith, same, c.requires.attempt)
+
+pub import_target-requires-clause-target : goal.import_target-requires-clause-target
+import_target-requires-clause-target g c =
+    let same : c.loop-target.floor.plan.b ≡ c.args.floor.now.plan.b = ap (λ (f : Parts _). f.plan.b) c.loop-target.invariant.floor in
+    omega (arith, same, c.requires.end, c.loop-target-test.true)
+
+pub import_target-requires-clause-ready : goal.import_target-requires-clause-ready
+import_target-requires-clause-ready g c =
+    let inv = c.loop-target.invariant in
+    inv.ready ∙ c.requires.ready ∙ ap Some (sym (ap (λ (f : Parts _). f.plan) inv.floor))
+
+pub import_target-requires-clause-room : goal.import_target-requires-clause-room
+import_target-requires-clause-room g c =
+    let inv = c.loop-target.invariant in
+    let b = c.args.floor.now.plan.b in
+    let n = c.loop-target.target - c.args.from in
+    let same : c.loop-target.floor.plan.b ≡ b = ap (λ (f : Parts _). f.plan.b) inv.floor in
+    let within : suc n ≤ c.args.end - c.args.from = omega (arith, inv.from, c.loop-target-test.true) in
+    let product = mul-le-mul_right {m = suc n} {n = c.args.end - c.args.from} (b + 1) within in
+    let one_more : suc n * (b + 1) ≡ n * (b + 1) + (b + 1) = omega arith in
+    omega (arith, same, inv.used, c.requires.room, product, one_more)
+
+pub import_target-requires-clause-counted : goal.import_target-requires-clause-counted
+import_target-requires-clause-counted g c =
+    let inv = c.loop-target.invariant in
+    let d = g.G.Told.draws c.args.attempt in
+    subst (λ (f : Parts _). AreCounted f.plan d (turns_made f) f.counts c.loop-target.self.tails) (sym inv.floor)
+    (subst (λ (w : Pressed). AreCounted c.args.floor.now.plan d (turns_made c.args.floor.now) c.args.floor.now.counts w.tails) (sym inv.others) c.requires.counted)
+
+pub import_target-requires-clause-put : goal.import_target-requires-clause-put
+import_target-requires-clause-put g c =
+    let inv = c.loop-target.invariant in
+    let f = c.args.floor.now in
+    let d = g.G.Told.draws c.args.attempt in
+    let n = c.loop-target.target - c.args.from in
+    let here : c.args.from + n ≡ c.loop-target.target = omega (arith, inv.from) in
+    let rises = climbs f.plan d (turns_made f) c.requires.counted.drawn c.requires.counted.all c.requires.counted.fits c.args.from n (omega (arith, inv.from, c.loop-target-test.true, c.requires.end)) in
+    subst (λ (q : Sizes). first q c.args.output ≤ reached q d c.loop-target.target) (sym (ap (λ (f : Parts _). f.plan) inv.floor))
+    (omega (arith, rises, c.requires.put, ap (reached f.plan d) here))
+
+pub import_target-requires-clause-waits : goal.import_target-requires-clause-waits
+import_target-requires-clause-waits g c =
+    let inv = c.loop-target.invariant in
+    inv.waits ∙ ap (λ (q : Sizes). reached q (g.G.Told.draws c.args.attempt) c.loop-target.target - first q c.args.output) (sym (ap (λ (f : Parts _). f.plan) inv.floor))
+
+pub loop-target-init : goal.loop-target-init
+loop-target-init g c =
+    let f = c.args.floor.now in
+    let d = g.G.Told.draws c.args.attempt in
+    let none : c.args.from - c.args.from ≡ 0 = omega arith in
+    record {
+      from = omega arith;
+      floor = refl;
+      others = refl;
+      ready = refl;
+      used = omega arith;
+      waits = c.requires.waits;
+      made = subst (λ (n : ℕ). AreMade {T = Unit {0}} g.V.Device.faults f.plan f.run d (order f.plan.b (turns_made f)) c.args.attempt (map (Import c.args.output) (range_with_len c.args.from n)) f.recorder f.recorder (Ok tt))
+          (sym none) (made_none g.V.Device.faults f.plan f.run d c.args.attempt (order f.plan.b (turns_made f)) f.recorder tt);
+    }
+
+pub returns-in-Err-clause-made : goal.returns-in-Err-clause-made
+returns-in-Err-clause-made g c =
+    let inv = c.loop-target.invariant in
+    let f = c.args.floor.now in
+    let d = g.G.Told.draws c.args.attempt in
+    let o = order f.plan.b (turns_made f) in
+    let t = c.loop-target.target in
+    let n = t - c.args.from in
+    let here : t ≡ c.args.from + n = omega (arith, inv.from) in
+    let old = c.loop-target.floor.recorder in
+    let new = c.import_target.new.floor.recorder in
+    made_imports_bad g.V.Device.faults f.plan f.run d o c.args.attempt c.args.output c.args.from (suc n) (c.args.end - c.args.from) f.recorder new c.in-Err.halt
+    (omega (arith, inv.from, c.loop-target-test.true))
+    (made_import g.V.Device.faults f.plan f.run d o c.args.attempt c.args.output c.args.from n f.recorder old new tt (Err c.in-Err.halt) inv.made
+    (subst (λ (i : ℕ). AreMade {T = Unit {0}} g.V.Device.faults f.plan f.run d o c.args.attempt (Import c.args.output i ∷ []) old new (Err c.in-Err.halt)) here
+    (subst (λ (x : Parts _). AreMade {T = Unit {0}} g.V.Device.faults x.plan x.run d (order x.plan.b (turns_made x)) c.args.attempt (Import c.args.output t ∷ []) old new (Err c.in-Err.halt)) inv.floor
+    c.in-Err.ensures.made)))
+
+pub loop-target-preserved : goal.loop-target-preserved
+loop-target-preserved g c =
+    let inv = c.loop-target.invariant in
+    let f = c.args.floor.now in
+    let d = g.G.Told.draws c.args.attempt in
+    let o = order f.plan.b (turns_made f) in
+    let t = c.loop-target.target in
+    let n = t - c.args.from in
+    let here : t ≡ c.args.from + n = omega (arith, inv.from) in
+    let more : suc n ≡ t + 1 - c.args.from = omega (arith, inv.from) in
+    let old = c.loop-target.floor.recorder in
+    let new = c.import_target.new.floor.recorder in
+    let same : c.loop-target.floor.plan.b ≡ f.plan.b = ap (λ (f : Parts _). f.plan.b) inv.floor in
+    let one_more : suc n * (f.plan.b + 1) ≡ n * (f.plan.b + 1) + (f.plan.b + 1) = omega arith in
+    let product = ap (λ (m : ℕ). m * (f.plan.b + 1)) more in
+    record {
+      from = omega (arith, inv.from);
+      floor = c.import_target.ensures.floor ∙ ap (λ (x : Parts _). record x { recorder = new }) inv.floor;
+      others = c.import_target.ensures.others ∙ ap (λ (w : Pressed). record w { queue = c.import_target.new.self.queue; counts = c.import_target.new.self.counts }) inv.others;
+      ready = c.import_target.ensures.ready ∙ inv.ready;
+      used = omega (arith, c.import_target.ensures.used, inv.used, same, one_more, product);
+      waits = c.in_default.ensures.waits ∙ ap (λ (q : Sizes). reached q d (t + 1) - first q c.args.output) (ap (λ (f : Parts _). f.plan) inv.floor);
+      made =
+          subst (λ (m : ℕ). AreMade {T = Unit {0}} g.V.Device.faults f.plan f.run d o c.args.attempt (map (Import c.args.output) (range_with_len c.args.from m)) f.recorder new (Ok tt)) more
+          (made_import g.V.Device.faults f.plan f.run d o c.args.attempt c.args.output c.args.from n f.recorder old new tt (Ok tt) inv.made
+          (subst (λ (i : ℕ). AreMade {T = Unit {0}} g.V.Device.faults f.plan f.run d o c.args.attempt (Import c.args.output i ∷ []) old new (Ok tt)) here
+          (subst (λ (x : Parts _). AreMade {T = Unit {0}} g.V.Device.faults x.plan x.run d (order x.plan.b (turns_made x)) c.args.attempt (Import c.args.output t ∷ []) old new (Ok tt)) inv.floor
+          c.in_default.ensures.made)));
+    }
+
+pub returns-clause-made : goal.returns-clause-made
+returns-clause-made g c =
+    let f = c.args.floor.now in
+    let d = g.G.Told.draws c.args.attempt in
+    let whole : c.loop-target.target - c.args.from ≡ c.args.end - c.args.from = omega (arith, c.loop-target-test.false, c.loop-target.auto.target-end, c.requires.from) in
+    subst (λ (m : ℕ). AreMade {T = Unit {0}} g.V.Device.faults f.plan f.run d (order f.plan.b (turns_made f)) c.args.attempt (map (Import c.args.output) (range_with_len c.args.from m)) f.recorder c.loop-target.floor.recorder (Ok tt))
+    whole c.loop-target.invariant.made

@@ -1,0 +1,82 @@
+use Rattle.std.proofs.Common.{◌≡◌, ◌+◌, ℕ, List, length, sum, ap, ◌∙◌, subst, arith}
+use Rattle.std.specs.Prelude.{slice_index}
+use Rattle.esa_floor.specs.Standing.{turns_made}
+use Rattle.esa_params.specs.Sizes.{Sizes}
+use Rattle.esa_device.specs.Recording.{Recorded}
+use Rattle.esa_press.specs.Pressed.{ImportAnswer, Pressed}
+use Rattle.esa_press.specs.Stepped.{parts_counted}
+use Rattle.esa_press.proofs.Counting.{parts_few, tail_few}
+use Rattle.esa_press.proofs.Fetching.{on_ok}
+use Rattle.esa_press.proofs.Stepping.{import_keeps, import_made, waits_few, waits_more}
+use Rattle.esa_press.proofs.press.Press.import_target.Goals as goal
+
+pub import-requires-clause-all : goal.import-requires-clause-all
+import-requires-clause-all g c =
+    let f = c.args.floor.now in
+    let w = c.args.self.now in
+    let i = c.args.target in
+    let parts : c.count.new.self.counts ≡ parts_counted f.plan f.counts w.tails i =
+    ap (λ (x : Pressed). x.counts) c.count.ensures ∙ ap (λ (q : Sizes). parts_counted q f.counts w.tails i) c.requires.plan in
+    let most : c.count.new.self.plan.n ≡ f.plan.n = ap (λ (x : Pressed). x.plan.n) c.count.ensures ∙ ap (λ (q : Sizes). q.n) c.requires.plan in
+    let waits : length c.count.new.self.queue ≡ length w.queue = ap (λ (x : Pressed). length x.queue) c.count.ensures in
+    let few = waits_few g.V.Device.faults f.plan f.run (g.G.Told.draws c.args.attempt) c.args.attempt (turns_made f) f.counts w.tails c.requires.counted c.args.output i c.requires.target c.requires.put w.queue c.requires.waits in
+    omega (arith, few, ap sum parts, most, waits)
+
+pub import-requires-clause-few : goal.import-requires-clause-few
+import-requires-clause-few g c = λ j j_in.
+    let f = c.args.floor.now in
+    let w = c.args.self.now in
+    let i = c.args.target in
+    let parts : c.count.new.self.counts ≡ parts_counted f.plan f.counts w.tails i =
+    ap (λ (x : Pressed). x.counts) c.count.ensures ∙ ap (λ (q : Sizes). parts_counted q f.counts w.tails i) c.requires.plan in
+    let same : c.count.new.self.plan ≡ f.plan = ap (λ (x : Pressed). x.plan) c.count.ensures ∙ c.requires.plan in
+    let few = parts_few f.plan (g.G.Told.draws c.args.attempt) (turns_made f) f.counts w.tails c.requires.counted i c.requires.target j (omega (arith, j_in, ap (λ (q : Sizes). q.b) same)) in
+    omega (arith, few, ap (λ (xs : List ℕ). slice_index xs j) parts, ap (λ (q : Sizes). q.c) same)
+
+pub import-requires-clause-few_left : goal.import-requires-clause-few_left
+import-requires-clause-few_left g c =
+    let f = c.args.floor.now in
+    let w = c.args.self.now in
+    let i = c.args.target in
+    let parts : c.count.new.self.counts ≡ parts_counted f.plan f.counts w.tails i =
+    ap (λ (x : Pressed). x.counts) c.count.ensures ∙ ap (λ (q : Sizes). parts_counted q f.counts w.tails i) c.requires.plan in
+    let same : c.count.new.self.plan ≡ f.plan = ap (λ (x : Pressed). x.plan) c.count.ensures ∙ c.requires.plan in
+    let few = tail_few f.plan (g.G.Told.draws c.args.attempt) (turns_made f) f.counts w.tails c.requires.counted i c.requires.target in
+    let at_end = ap (λ (xs : List ℕ). slice_index xs c.count.new.self.plan.b) parts ∙ ap (λ (n : ℕ). slice_index (parts_counted f.plan f.counts w.tails i) n) (ap (λ (q : Sizes). q.b) same) in
+    omega (arith, few, at_end, ap (λ (q : Sizes). q.k) same)
+
+pub returns-clause-made : goal.returns-clause-made
+returns-clause-made g c =
+    let f = c.args.floor.now in
+    let w = c.args.self.now in
+    let i = c.args.target in
+    import_made g.V.Device.faults f.plan f.run (g.G.Told.draws c.args.attempt) c.args.attempt (turns_made f) f.counts w.tails c.requires.counted c.args.output i c.requires.target c.requires.put
+    c.count.new.self (ap (λ (x : Pressed). x.plan) c.count.ensures ∙ c.requires.plan) (ap (λ (x : Pressed). x.run) c.count.ensures ∙ c.requires.run)
+    (ap (λ (x : Pressed). x.counts) c.count.ensures ∙ ap (λ (q : Sizes). parts_counted q f.counts w.tails i) c.requires.plan)
+    (ap (λ (x : Pressed). length x.queue) c.count.ensures ∙ c.requires.waits)
+    f.recorder c.import.new.recorder c.import.result
+    (subst (λ (r : Recorded _). ImportAnswer g.V.Device.faults c.count.new.self.plan c.count.new.self.run c.args.attempt i c.count.new.self.counts c.count.new.self.queue r c.import.new.recorder c.import.result)
+    c.recorder.ensures.value c.import.ensures.answer)
+
+pub returns-clause-waits : goal.returns-clause-waits
+returns-clause-waits g c =
+    let f = c.args.floor.now in
+    let w = c.args.self.now in
+    let i = c.args.target in
+    on_ok c.import.result c.import.ensures.counted
+    (λ grown. grown
+    ∙ ap (λ (n : ℕ). n + sum c.count.new.self.counts) (ap (λ (x : Pressed). length x.queue) c.count.ensures)
+    ∙ ap (λ (n : ℕ). length w.queue + n) (ap (λ (x : Pressed). sum x.counts) c.count.ensures ∙ ap (λ (q : Sizes). sum (parts_counted q f.counts w.tails i)) c.requires.plan)
+    ∙ waits_more g.V.Device.faults f.plan f.run (g.G.Told.draws c.args.attempt) c.args.attempt (turns_made f) f.counts w.tails c.requires.counted c.args.output i c.requires.target c.requires.put w.queue c.requires.waits)
+
+pub returns-clause-ready : goal.returns-clause-ready
+returns-clause-ready g c =
+    (import_keeps g.V.Device.faults c.count.new.self.plan c.count.new.self.run c.args.attempt c.args.target c.count.new.self.counts c.count.new.self.queue c.recorder.result.now c.import.new.recorder c.import.result c.import.ensures.answer).0
+    ∙ ap (λ (r : Recorded _). r.plan) c.recorder.ensures.value
+
+pub returns-clause-used : goal.returns-clause-used
+returns-clause-used g c =
+    let keeps = (import_keeps g.V.Device.faults c.count.new.self.plan c.count.new.self.run c.args.attempt c.args.target c.count.new.self.counts c.count.new.self.queue c.recorder.result.now c.import.new.recorder c.import.result c.import.ensures.answer).1 in
+    let room = ap (λ (r : Recorded _). r.room) c.recorder.ensures.value in
+    let same = ap (λ (x : Pressed). x.plan.b) c.count.ensures ∙ ap (λ (q : Sizes). q.b) c.requires.plan in
+    omega (arith, keeps, room, same)

@@ -1,0 +1,72 @@
+use Rattle.std.proofs.Common.{◌≡◌, ◌+◌, ◌-◌, ◌*◌, ◌<◌, ◌≤◌, ℕ, suc, [], ◌∷◌, ◌++◌, List, Ok, Err, Some, OnOk, length, map, refl, sym, ap, ◌∙◌, subst, arith}
+use Rattle.std.specs.List.{range_with_len}
+use Rattle.esa_compress.proofs.ImportLaws.{climbs}
+use Rattle.esa_floor.specs.Parts.{Parts}
+use Rattle.esa_floor.specs.Standing.{turns_made}
+use Rattle.esa_params.specs.Sizes.{Sizes, first}
+use Rattle.esa_spec.specs.Turns.{order}
+use Rattle.esa_spec.specs.Verdicts.{Import, Put, imported, reached}
+use Rattle.esa_device.specs.Recording.{Recorded}
+use Rattle.esa_envelope.specs.declared.keys.Keys.{Keys}
+use Rattle.esa_press.specs.Pressed.{Pressed, PutAnswer}
+use Rattle.esa_press.specs.Stepped.{AreMade}
+use Rattle.esa_press.proofs.Fetching.{on_ok}
+use Rattle.esa_press.proofs.Stepping.{made_bad, made_more, put_keeps, put_one, put_waits}
+use Rattle.esa_press.proofs.press.Press.put_out.Goals as goal
+
+pub put-requires-clause-bucket : goal.put-requires-clause-bucket
+put-requires-clause-bucket g c =
+    let same : c.import_ahead.new.self.plan.b ≡ c.args.floor.now.plan.b = ap (λ (w : Pressed). w.plan.b) c.import_ahead.ensures.others ∙ ap (λ (q : Sizes). q.b) c.requires.plan in
+    omega (arith, same, c.requires.output)
+
+pub returns-in-Err-clause-made : goal.returns-in-Err-clause-made
+returns-in-Err-clause-made g c =
+    let f = c.args.floor.now in
+    let d = g.G.Told.draws c.args.attempt in
+    let o = order f.plan.b (turns_made f) in
+    let j = c.args.output in
+    let new = c.import_ahead.new.floor.recorder in
+    subst (λ (s : ℕ). AreMade {T = Unit {0}} g.V.Device.faults f.plan f.run d o c.args.attempt (map (Import j) (range_with_len s (imported f.plan (suc j) - s)) ++ Put j ∷ []) f.recorder new (Err c.in-Err.halt)) c.requires.from
+    (subst (λ (e : ℕ). AreMade {T = Unit {0}} g.V.Device.faults f.plan f.run d o c.args.attempt (map (Import j) (range_with_len c.args.from (e - c.args.from)) ++ Put j ∷ []) f.recorder new (Err c.in-Err.halt)) c.requires.end
+    (made_bad g.V.Device.faults f.plan f.run d c.args.attempt o (map (Import j) (range_with_len c.args.from (c.args.end - c.args.from))) (Put j ∷ []) f.recorder new c.in-Err.halt c.in-Err.ensures.made))
+
+pub returns-clause-made : goal.returns-clause-made
+returns-clause-made g c =
+    let f = c.args.floor.now in
+    let d = g.G.Told.draws c.args.attempt in
+    let o = order f.plan.b (turns_made f) in
+    let j = c.args.output in
+    let w = c.import_ahead.new.self in
+    let mid = c.import_ahead.new.floor.recorder in
+    let new = c.put.new.recorder in
+    let n = c.args.end - c.args.from in
+    let here : c.args.from + n ≡ c.args.end = omega (arith, c.requires.rises) in
+    let rises = climbs f.plan d (turns_made f) c.requires.counted.drawn c.requires.counted.all c.requires.counted.fits c.args.from n (omega (arith, c.requires.rises, c.requires.within)) in
+    let put : first f.plan j ≤ reached f.plan d c.args.end = omega (arith, rises, c.requires.put, ap (reached f.plan d) here) in
+    let plan_is : w.plan ≡ f.plan = ap (λ (x : Pressed). x.plan) c.import_ahead.ensures.others ∙ c.requires.plan in
+    let run_is : w.run ≡ f.run = ap (λ (x : Pressed). x.run) c.import_ahead.ensures.others ∙ c.requires.run in
+    subst (λ (s : ℕ). AreMade {T = Unit {0}} g.V.Device.faults f.plan f.run d o c.args.attempt (map (Import j) (range_with_len s (imported f.plan (suc j) - s)) ++ Put j ∷ []) f.recorder new c.put.result) c.requires.from
+    (subst (λ (e : ℕ). AreMade {T = Unit {0}} g.V.Device.faults f.plan f.run d o c.args.attempt (map (Import j) (range_with_len c.args.from (e - c.args.from)) ++ Put j ∷ []) f.recorder new c.put.result) c.requires.end
+    (made_more g.V.Device.faults f.plan f.run d c.args.attempt o (map (Import j) (range_with_len c.args.from n)) (Put j ∷ []) f.recorder mid new c.in_default.field-0 c.put.result c.in_default.ensures.made
+    (put_one g.V.Device.faults f.plan f.run d c.args.attempt o g.V.Device.told g.V.Device.last_call j (subst (λ (m : ℕ). first f.plan j ≤ reached f.plan d m) c.requires.end put)
+    w.queue c.put.new.self.queue (c.in_default.ensures.waits ∙ ap (λ (m : ℕ). reached f.plan d m - first f.plan j) c.requires.end) mid new c.put.result
+    (subst (λ (r : Recorded _). PutAnswer g.V.Device.told g.V.Device.faults g.V.Device.last_call f.plan f.run c.args.attempt j w.queue c.put.new.self.queue r new c.put.result) c.recorder.ensures.value
+    (subst (λ (k : Keys). PutAnswer g.V.Device.told g.V.Device.faults g.V.Device.last_call f.plan k c.args.attempt j w.queue c.put.new.self.queue c.recorder.result.now new c.put.result) run_is
+    (subst (λ (q : Sizes). PutAnswer g.V.Device.told g.V.Device.faults g.V.Device.last_call q w.run c.args.attempt j w.queue c.put.new.self.queue c.recorder.result.now new c.put.result) plan_is c.put.ensures.answer))))))
+
+pub returns-clause-put : goal.returns-clause-put
+returns-clause-put g c =
+    let f = c.args.floor.now in
+    let d = g.G.Told.draws c.args.attempt in
+    let j = c.args.output in
+    let w = c.import_ahead.new.self in
+    let n = c.args.end - c.args.from in
+    let here : c.args.from + n ≡ c.args.end = omega (arith, c.requires.rises) in
+    let rises = climbs f.plan d (turns_made f) c.requires.counted.drawn c.requires.counted.all c.requires.counted.fits c.args.from n (omega (arith, c.requires.rises, c.requires.within)) in
+    let put : first f.plan j ≤ reached f.plan d c.args.end = omega (arith, rises, c.requires.put, ap (reached f.plan d) here) in
+    let plan_is : w.plan ≡ f.plan = ap (λ (x : Pressed). x.plan) c.import_ahead.ensures.others ∙ c.requires.plan in
+    on_ok c.put.result
+    (put_waits g.V.Device.told g.V.Device.faults g.V.Device.last_call f.plan d w.run c.args.attempt j w.queue c.put.new.self.queue c.recorder.result.now c.put.new.recorder (reached f.plan d c.args.end) c.put.result
+    (subst (λ (q : Sizes). PutAnswer g.V.Device.told g.V.Device.faults g.V.Device.last_call q w.run c.args.attempt j w.queue c.put.new.self.queue c.recorder.result.now c.put.new.recorder c.put.result) plan_is c.put.ensures.answer)
+    put c.in_default.ensures.waits)
+    (λ both. both.0)

@@ -1,0 +1,121 @@
+//! The compression: what was distributed is imported, and put out.
+
+ghost use Rattle.std.specs.Prelude.{◌≡◌, ℕ, suc, ◌+◌, ◌-◌, ◌*◌, ◌<◌, ◌≤◌, [], ◌∷◌, Some, OnOk, length, map};
+ghost use Rattle.std.specs.List.{range_with_len};
+ghost use Rattle.esa_floor.specs.Standing.{turns_made};
+ghost use Rattle.esa_params.specs.Sizes.{first};
+ghost use Rattle.esa_spec.specs.Turns.{order};
+ghost use Rattle.esa_spec.specs.Verdicts.{Import, imported, reached, steps_of};
+ghost use Rattle.esa_press.specs.Stepped.{AreCounted, AreMade};
+
+use crate::halt::Halt;
+use crate::press::Press;
+use esa_device::Device;
+use esa_floor::{Floor, Told};
+use esa_spec::Coins;
+
+impl Press {
+    /// Imports a target of a floor, where so many places wait as were reached and not put out.
+    pub fn import_target<V: Device, G: Told, C: Coins>(
+        &mut self,
+        floor: &mut Floor<V, G>,
+        coins: &C,
+        attempt: u32,
+        output: u32,
+        target: u32,
+    ) -> Result<(), Halt>
+        requires plan { self.old.plan ≡ floor.old.plan }
+        requires run { self.old.run ≡ floor.old.run }
+        requires coins { C.plan coins.now ≡ floor.old.plan }
+        requires attempt { attempt < floor.old.plan.attempts }
+        requires target { target < floor.old.plan.b }
+        requires ready { floor.old.recorder.plan ≡ Some floor.old.plan }
+        requires room { floor.old.plan.b + 1 ≤ floor.old.recorder.room }
+        requires counted { AreCounted floor.old.plan (G.draws attempt) (turns_made floor.old) floor.old.counts self.old.tails }
+        requires put { first floor.old.plan output ≤ reached floor.old.plan (G.draws attempt) target }
+        requires waits { length self.old.queue ≡ reached floor.old.plan (G.draws attempt) target - first floor.old.plan output }
+        ensures made { AreMade V.faults floor.old.plan floor.old.run (G.draws attempt) (order floor.old.plan.b (turns_made floor.old)) attempt (Import output target ∷ []) floor.old.recorder floor.new.recorder result }
+        ensures waits { OnOk result (length self.new.queue ≡ reached floor.old.plan (G.draws attempt) (target + 1) - first floor.old.plan output) }
+        ensures floor { floor.new ≡ record floor.old { recorder = floor.new.recorder } }
+        ensures ready { floor.new.recorder.plan ≡ floor.old.recorder.plan }
+        ensures used { floor.old.recorder.room ≤ floor.new.recorder.room + (floor.old.plan.b + 1) }
+        ensures others { self.new ≡ record self.old { queue = self.new.queue; counts = self.new.counts } }
+    {
+        self.count(floor, target);
+        self.import(floor.recorder(), coins, attempt, target)
+    }
+
+    /// Imports the targets from one on up to another, for an output bucket.
+    pub fn import_ahead<V: Device, G: Told, C: Coins>(
+        &mut self,
+        floor: &mut Floor<V, G>,
+        coins: &C,
+        attempt: u32,
+        output: u32,
+        from: u32,
+        end: u32,
+    ) -> Result<(), Halt>
+        requires plan { self.old.plan ≡ floor.old.plan }
+        requires run { self.old.run ≡ floor.old.run }
+        requires coins { C.plan coins.now ≡ floor.old.plan }
+        requires attempt { attempt < floor.old.plan.attempts }
+        requires from { from ≤ end }
+        requires end { end ≤ floor.old.plan.b }
+        requires ready { floor.old.recorder.plan ≡ Some floor.old.plan }
+        requires room { (end - from) * (floor.old.plan.b + 1) ≤ floor.old.recorder.room }
+        requires counted { AreCounted floor.old.plan (G.draws attempt) (turns_made floor.old) floor.old.counts self.old.tails }
+        requires put { first floor.old.plan output ≤ reached floor.old.plan (G.draws attempt) from }
+        requires waits { length self.old.queue ≡ reached floor.old.plan (G.draws attempt) from - first floor.old.plan output }
+        ensures made { AreMade V.faults floor.old.plan floor.old.run (G.draws attempt) (order floor.old.plan.b (turns_made floor.old)) attempt (map (Import output) (range_with_len from (end - from))) floor.old.recorder floor.new.recorder result }
+        ensures waits { OnOk result (length self.new.queue ≡ reached floor.old.plan (G.draws attempt) end - first floor.old.plan output) }
+        ensures floor { floor.new ≡ record floor.old { recorder = floor.new.recorder } }
+        ensures ready { floor.new.recorder.plan ≡ floor.old.recorder.plan }
+        ensures used { floor.old.recorder.room ≤ floor.new.recorder.room + (end - from) * (floor.old.plan.b + 1) }
+        ensures others { self.new ≡ record self.old { queue = self.new.queue; counts = self.new.counts } }
+    {
+        for target in from..end {
+            if let Err(halt) = self.import_target(floor, coins, attempt, output, target) {
+                return Err(halt);
+            }
+        }
+        Ok(())
+    }
+
+    /// Imports what belongs in the window of an output bucket, and puts that bucket.
+    pub fn put_out<V: Device, G: Told, C: Coins>(
+        &mut self,
+        floor: &mut Floor<V, G>,
+        coins: &C,
+        attempt: u32,
+        output: u32,
+        from: u32,
+        end: u32,
+    ) -> Result<(), Halt>
+        requires plan { self.old.plan ≡ floor.old.plan }
+        requires run { self.old.run ≡ floor.old.run }
+        requires coins { C.plan coins.now ≡ floor.old.plan }
+        requires attempt { attempt < floor.old.plan.attempts }
+        requires output { output < floor.old.plan.b }
+        requires from { from ≡ imported floor.old.plan output }
+        requires end { end ≡ imported floor.old.plan (suc output) }
+        requires rises { from ≤ end }
+        requires within { end ≤ floor.old.plan.b }
+        requires ready { floor.old.recorder.plan ≡ Some floor.old.plan }
+        requires room { (end - from) * (floor.old.plan.b + 1) + 1 ≤ floor.old.recorder.room }
+        requires counted { AreCounted floor.old.plan (G.draws attempt) (turns_made floor.old) floor.old.counts self.old.tails }
+        requires put { first floor.old.plan output ≤ reached floor.old.plan (G.draws attempt) from }
+        requires waits { length self.old.queue ≡ reached floor.old.plan (G.draws attempt) from - first floor.old.plan output }
+        ensures made { AreMade V.faults floor.old.plan floor.old.run (G.draws attempt) (order floor.old.plan.b (turns_made floor.old)) attempt (steps_of floor.old.plan output) floor.old.recorder floor.new.recorder result }
+        ensures put { OnOk result (first floor.old.plan (output + 1) ≤ reached floor.old.plan (G.draws attempt) end) }
+        ensures waits { OnOk result (length self.new.queue ≡ reached floor.old.plan (G.draws attempt) end - first floor.old.plan (output + 1)) }
+        ensures floor { floor.new ≡ record floor.old { recorder = floor.new.recorder } }
+        ensures ready { floor.new.recorder.plan ≡ floor.old.recorder.plan }
+        ensures used { floor.old.recorder.room ≤ floor.new.recorder.room + ((end - from) * (floor.old.plan.b + 1) + 1) }
+        ensures others { self.new ≡ record self.old { queue = self.new.queue; counts = self.new.counts } }
+    {
+        if let Err(halt) = self.import_ahead(floor, coins, attempt, output, from, end) {
+            return Err(halt);
+        }
+        self.put(floor.recorder(), attempt, output)
+    }
+}
