@@ -1,13 +1,12 @@
 -- The steps of a compression over the memory: how they end, and which accesses they make.
 use Rattle.std.specs.Prelude.{◌≡◌, ℕ, ◌*◌, ◌<◌, false, List, [], ◌∷◌, ◌++◌, length, map, slice_index, None, Result, Ok, Err}
-use Rattle.esa_device.specs.Logs.{slot_number}
 use Rattle.esa_device.specs.Recording.{Recorded}
 use Rattle.esa_envelope.specs.declared.keys.Keys.{Keys}
 use Rattle.esa_floor.specs.Parts.{count_at}
 use Rattle.esa_floor.specs.Standing.{items_in}
 use Rattle.esa_outside.specs.Cause.{Rose}
 use Rattle.esa_params.specs.Sizes.{Sizes, below}
-use Rattle.esa_params.specs.Slots.{at}
+use Rattle.esa_params.specs.Slots.{at, slot_number}
 use Rattle.esa_params.specs.declared.slot.Access.{Access}
 use Rattle.esa_params.specs.declared.slot.Op.TheVariants.{Read as Reads}
 use Rattle.esa_spec.specs.Draws.{Draw, IsDrawn}
