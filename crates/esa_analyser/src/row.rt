@@ -3,7 +3,7 @@
 ghost use Rattle.std.specs.Prelude.{◌≡◌, ◌+◌, ◌≤◌, Option, Some, None, length, drop, MatchResult};
 ghost use Rattle.std.specs.Option.{option_map};
 ghost use Rattle.esa_analyser.specs.Rows.{is_above};
-ghost use Rattle.esa_analyser.specs.Reading.{row_refusal, row_length, row_value, row_count};
+ghost use Rattle.esa_analyser.specs.Reading.{row_refusal, row_length};
 
 use crate::DbRefused;
 use esa_bytes::{Cut, u32_at};

@@ -1,6 +1,6 @@
 //! What a shuffler handed on.
 
-ghost use Rattle.std.specs.Prelude.{◌≡◌, IfOk};
+ghost use Rattle.std.specs.Prelude.{IfOk};
 ghost use Rattle.esa_job.specs.Seen.{request_of, Needs};
 ghost use Rattle.esa_analysing.specs.Analyse.{forward_file, AreWhole};
 ghost use Rattle.esa_command.specs.Judged.{Judged};

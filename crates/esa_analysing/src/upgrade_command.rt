@@ -1,6 +1,5 @@
 //! The command upgrade: a database of either version becomes one of version 2.
 
-ghost use Rattle.std.specs.Prelude.{◌≡◌};
 ghost use Rattle.esa_analyser.specs.Rows.{IsDatabase};
 ghost use Rattle.esa_params.specs.declared.form.Form.TheVariants as form;
 ghost use Rattle.esa_analysing.specs.Analyse.{database_work};

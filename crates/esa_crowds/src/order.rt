@@ -1,6 +1,6 @@
 //! The places of rows, sorted by their rows.
 
-ghost use Rattle.std.specs.Prelude.{◌≡◌, ◌≤◌, ◌<◌, ◌^◌, length, slice_get, vec_capacity};
+ghost use Rattle.std.specs.Prelude.{◌≡◌, ◌≤◌, ◌<◌, ◌^◌, length, vec_capacity};
 ghost use Rattle.std.specs.List.Sorted.{IsPermutation, IsSorted};
 ghost use Rattle.esa_params.specs.Sizes.{below};
 ghost use Rattle.esa_crowds.specs.Rows.{by_place};

@@ -1,6 +1,6 @@
 //! Sorted places, crowd by crowd.
 
-ghost use Rattle.std.specs.Prelude.{◌≡◌, ◌≢◌, ◌+◌, ◌≤◌, ◌<◌, ℕ, List, [], Bool, false, nat_le, ◌||◌, All, length, take, drop, map, cond, slice_index, slice_index_or};
+ghost use Rattle.std.specs.Prelude.{◌≡◌, ◌≢◌, ◌+◌, ◌≤◌, ◌<◌, ℕ, List, [], false, nat_le, ◌||◌, All, length, drop, cond, slice_index, slice_index_or};
 ghost use Rattle.std.specs.List.Sorted.{IsSorted, IsPermutation};
 ghost use Rattle.esa_hmac.specs.Mac.{StandsFor};
 ghost use Rattle.esa_params.specs.declared.form.Form.{Form};

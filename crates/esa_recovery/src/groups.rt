@@ -1,12 +1,12 @@
 //! The groups of a database's share records.
 
-ghost use Rattle.std.specs.Prelude.{◌≡◌, ◌<◌, ◌≤◌, true, false, ℕ, List, length, slice_index, bytes_eq, OnOk, IfOk, option_map, if◌then◌else◌};
+ghost use Rattle.std.specs.Prelude.{◌≡◌, ◌<◌, ◌≤◌, true, false, ℕ, List, length, bytes_eq, OnOk, IfOk};
 ghost use Rattle.std.specs.Ordering.{nat_cmp};
 ghost use Rattle.std.specs.Cmp.Lexicographic.{slice_cmp};
 ghost use Rattle.std.specs.BTreeMap as tree;
 ghost use Rattle.esa_shares.specs.Share.{is_share};
-ghost use Rattle.esa_recovery.specs.Meaning.{group_of, needed, opened, meaning};
-ghost use Rattle.esa_recovery.specs.Group.{GroupHas, taken_with, value_of, Opens};
+ghost use Rattle.esa_recovery.specs.Meaning.{group_of};
+ghost use Rattle.esa_recovery.specs.Group.{GroupHas, taken_with, Opens};
 
 use crate::group::{Group, key_of};
 use esa_analyser::Db;

@@ -1,6 +1,6 @@
 //! The database of what the rows of a database mean.
 
-ghost use Rattle.std.specs.Prelude.{◌≡◌, ◌⊎◌, ◌+◌, ◌<◌, ◌↔◌, ◌^◌, ℕ, Err, IfOk, MatchResult, length, sum_by, OnOk, OnErr, None, Some, List};
+ghost use Rattle.std.specs.Prelude.{◌≡◌, ◌⊎◌, ◌+◌, ◌<◌, ◌↔◌, ◌^◌, Err, IfOk, MatchResult, length, OnOk, OnErr, None, Some};
 ghost use Rattle.std.specs.FinMap as map;
 ghost use Rattle.esa_analyser.specs.Database.{Database};
 ghost use Rattle.esa_analyser.specs.Rows.{IsDatabase, database_bytes};

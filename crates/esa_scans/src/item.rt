@@ -7,7 +7,7 @@ ghost use Rattle.esa_crowds.specs.Kept.{sent_from};
 ghost use Rattle.esa_hmac.specs.Mac.{StandsFor};
 ghost use Rattle.esa_params.specs.Form.{inner_length};
 ghost use Rattle.esa_params.specs.Slots.{item_length};
-ghost use Rattle.esa_report.specs.Item.{IsItemLength, item_in};
+ghost use Rattle.esa_report.specs.Item.{IsItemLength};
 ghost use Rattle.esa_scans.specs.Held.{is_marked, is_real, is_real_in, item_held};
 
 use crate::sent::Sent;

@@ -1,6 +1,6 @@
 //! The tables of a threshold, and its two scans.
 
-ghost use Rattle.std.specs.Prelude.{◌≡◌, ◌+◌, ◌*◌, ◌≤◌, ◌⊎◌, ◌≢◌, ℕ, List, [], Some, Err, IfOk, OnOk, OnErr};
+ghost use Rattle.std.specs.Prelude.{◌≡◌, ◌*◌, ◌≤◌, ◌⊎◌, ◌≢◌, ℕ, List, [], Some, Err, IfOk, OnOk, OnErr};
 ghost use Rattle.std.specs.List.{concat, flat_map};
 ghost use Rattle.esa_crowds.specs.Kept.{forward as forwards};
 ghost use Rattle.esa_device.specs.Logs.{IsFaithful};

@@ -1,6 +1,6 @@
 //! Small outputs, and what is forwarded of them: the codes were computed apart, by another implementation of HMAC.
 
-ghost use Rattle.std.specs.Prelude.{◌≡◌, ◌<◌, OnOk, Some};
+ghost use Rattle.std.specs.Prelude.{◌≡◌, ◌<◌, Some};
 
 use super::*;
 use esa_device::{Device, MemDevice, Recorder};
