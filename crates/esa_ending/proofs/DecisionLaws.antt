@@ -1,7 +1,7 @@
 -- What decides how a run ends.
-use Rattle.std.proofs.Common.{inl, inr, ◌⊎◌, ◌≡◌, ℕ, ◌+◌, ◌≤◌, ◌<◌, Bool, true, false, cond, ◌&&◌, List, [], ◌∷◌, ◌++◌, length, take, map, refl, sym, ◌∙◌, ap, arith}
+use Rattle.std.proofs.Common.{inl, inr, ◌⊎◌, ◌≡◌, ℕ, suc, ◌+◌, ◌≤◌, ◌<◌, Bool, true, false, cond, ◌&&◌, List, [], ◌∷◌, ◌++◌, length, take, map, refl, sym, ◌∙◌, ap, arith}
 use Rattle.std.specs.List.{flat_map, filter_map}
-use Rattle.std.specs.Prelude.{Some, None}
+use Rattle.std.specs.Prelude.{Option, Some, None, slice_get}
 use Rattle.esa_params.specs.Sizes.{Sizes, below, places_of}
 use Rattle.esa_laws.proofs.FinishLaws.{AllBelow, All-below, All-tail}
 use Rattle.esa_laws.proofs.LaterLaws.{good-ends}
@@ -16,8 +16,8 @@ use Rattle.esa_spec.specs.Traces.{all_failed, good_attempt}
 use Rattle.esa_spec.specs.Turns.{order}
 use Rattle.esa_spec.specs.Verdicts.{is_finished, is_good, verdict}
 use Rattle.esa_spec.specs.declared.event.Verdict.{Verdict}
-use Rattle.esa_ending.specs.Endings.{Succeeds, Overflows}
-use Rattle.esa_ending.specs.Seen.{Seen, stored, turns_in, verdict_in, SameTargets, SameOrders}
+use Rattle.esa_ending.specs.Endings.{Succeeds, ComesOut, Overflows}
+use Rattle.esa_ending.specs.Seen.{Seen, stored, turns_in, verdict_in, come_out, SameTargets, SameOrders}
 
 -- draws that agree on the targets of some attempts
 module _ (p : Sizes) (ds es : ℕ → Draw) (n : ℕ) (same : (x : ℕ) → x < n → SameTargets p (ds x) (es x)) where
@@ -89,6 +89,17 @@ module _ (p : Sizes) (ds : ℕ → Draw) where
       by (inl fails) = inl fails
       by (inr found) = inr (found.0, (let bound = found.1 in omega arith), found.2)
 
+-- the attempt that succeeds is one of those that are there
+within-by : (a m n : ℕ) (later : Option ℕ) (c g : Bool) → cond c (cond g (Some a) later) None ≡ Some m → (later ≡ Some m → m < a + 1 + n) → m < a + suc n
+within-by a m n later true true e on = let is : a ≡ m = cc in omega (arith, is)
+within-by a m n later true false e on = let bound = on e in omega arith
+within-by a m n later false g e on = absurd (cc)
+
+good-within : (p : Sizes) (ds : ℕ → Draw) (a m : ℕ) (hs : List (List ℕ)) → good_attempt p ds a hs ≡ Some m → m < a + length hs
+good-within p ds a m [] e = absurd (cc)
+good-within p ds a m (h ∷ hs) e =
+    within-by a m (length hs) (good_attempt p ds (a + 1) hs) (is_finished p (ds a) h) (is_good (verdict p (ds a) h)) e (good-within p ds (a + 1) m hs)
+
 -- functions that agree on the elements of a list
 map-same : {Y : Type 0} (f g : ℕ → Y) (b : ℕ) (xs : List ℕ) → AllBelow b xs → ((x : ℕ) → x < b → f x ≡ g x) → map f xs ≡ map g xs
 map-same f g b [] all same = refl
@@ -114,3 +125,15 @@ module _ (p : Sizes) (d e : Draw) (h : List ℕ) (targets : SameTargets p d e) (
 
   pub places-same : places p d h ≡ places p e h
   places-same = flat-same (arranged p d (order p.b h)) (arranged p e (order p.b h)) p.b (below p.b) (All-below p.b p.b (omega arith)) arranged-same
+
+module _ (p : Sizes) (ds es : ℕ → Draw) (hs : List (List ℕ)) (seen other : Seen) (same : (x : ℕ) → x < length hs → SameTargets p (ds x) (es x)) where
+  pub output-same : {X : Type 0} (a e : ℕ) (records out others : List X) → SameOrders p (ds a) (es a)
+      → Succeeds p ds hs seen a → Succeeds p es hs other e
+      → ComesOut p ds hs a records out → ComesOut p es hs e records others → out ≡ others
+  output-same a e records out others orders s t from to =
+      let a_in = good-within p ds 0 a hs s.good in
+      let is = (success-same p ds es hs seen other same a e s t).0 in
+      from.order
+      ∙ ap (filter_map (slice_get records)) (places-same p (ds a) (es a) (turns_in hs a) (same a (omega arith)) orders)
+      ∙ ap (λ y. come_out p (es y) (turns_in hs y) records) is
+      ∙ sym to.order

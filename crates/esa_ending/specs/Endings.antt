@@ -10,7 +10,7 @@ use Rattle.esa_spec.specs.Draws.{Draw}
 use Rattle.esa_spec.specs.Traces.{all_failed, good_attempt, trace, written_input}
 use Rattle.esa_spec.specs.Turns.{order}
 use Rattle.esa_spec.specs.declared.event.Verdict.{Verdict}
-use Rattle.esa_ending.specs.Seen.{Seen, stored, Begins, EndsWith, AreCut, turns_in, verdict_in, items_in}
+use Rattle.esa_ending.specs.Seen.{Seen, stored, Begins, EndsWith, AreCut, turns_in, verdict_in, items_in, come_out}
 
 -- attempt a succeeds: it is the first that is finished and good
 pub record Succeeds (p : Sizes) (ds : ℕ → Draw) (hs : List (List ℕ)) (seen : Seen) (a : ℕ) : Type 0 where
@@ -20,6 +20,11 @@ pub record Succeeds (p : Sizes) (ds : ℕ → Draw) (hs : List (List ℕ)) (seen
   pub whole : seen.trace ≡ trace p ds hs
   -- the turns of the attempts up to this one were stored
   pub turns : stored p seen ≡ take (a + 1) hs
+
+-- the records of the batch come out in the order of attempt a
+pub record ComesOut {X : Type 0} (p : Sizes) (ds : ℕ → Draw) (hs : List (List ℕ)) (a : ℕ) (records out : List X) : Type 0 where
+  pub all : length records ≡ p.n
+  pub order : out ≡ come_out p (ds a) (turns_in hs a) records
 
 -- each planned attempt is finished and none is good. The failures are their verdicts, in order
 pub record Overflows (p : Sizes) (ds : ℕ → Draw) (hs : List (List ℕ)) (seen : Seen) (failures : List Verdict) : Type 0 where

@@ -2,8 +2,8 @@
 
 ghost use Rattle.std.specs.Prelude.{◌≡◌, ℕ, ◌∷◌, [], false, replicate};
 ghost use Rattle.esa_ending.specs.Cases.{base_draws, seen_after, seen_in_load, stash_zero};
-ghost use Rattle.esa_ending.specs.Endings.{Succeeds, Overflows, DeviceFails, BlockIsTampered, BatchFails};
-ghost use Rattle.esa_ending.specs.Seen.{come_out, items_in};
+ghost use Rattle.esa_ending.specs.Endings.{Succeeds, ComesOut, Overflows, DeviceFails, BlockIsTampered, BatchFails};
+ghost use Rattle.esa_ending.specs.Seen.{items_in};
 ghost use Rattle.esa_params.specs.declared.slot.Op.TheVariants.{Read};
 ghost use Rattle.esa_params.specs.declared.slot.Region.TheVariants.{Mid, Tail, Output};
 ghost use Rattle.esa_spec.specs.Cases.{accessed, base};
@@ -12,7 +12,7 @@ ghost use Rattle.esa_spec.specs.declared.event.Verdict.TheVariants.{StashOverflo
 // All 22 accesses and ten turns: attempt 0 succeeds, and the third record comes out last.
 fn base_succeeds()
     ensures succeeds { Succeeds base base_draws (replicate 10 0 ∷ []) (seen_after 22 10) 0 }
-    ensures order { come_out {X = ℕ} base (base_draws 0) (replicate 10 0) (10 ∷ 20 ∷ 30 ∷ 40 ∷ []) ≡ 10 ∷ 20 ∷ 40 ∷ 30 ∷ [] }
+    ensures order { ComesOut {X = ℕ} base base_draws (replicate 10 0 ∷ []) 0 (10 ∷ 20 ∷ 30 ∷ 40 ∷ []) (10 ∷ 20 ∷ 40 ∷ 30 ∷ []) }
 {}
 
 // Without a stash the first exchange overflows: the load, one read and three turns.

@@ -1,7 +1,7 @@
 //! What decides how a run ends: its sizes, its draws and its turns, and nothing else.
 
 ghost use Rattle.std.specs.Prelude.{◌≡◌, ℕ, ◌<◌, ◌≤◌, ◌⊎◌, true, false, Some, List, length, All};
-ghost use Rattle.esa_ending.specs.Endings.{Succeeds, Overflows};
+ghost use Rattle.esa_ending.specs.Endings.{Succeeds, ComesOut, Overflows};
 ghost use Rattle.esa_ending.specs.Seen.{Seen, stored, SameTargets, SameOrders};
 ghost use Rattle.esa_params.specs.Sizes.{Sizes};
 ghost use Rattle.esa_spec.specs.Completion.{all_finished, completions};
@@ -53,7 +53,12 @@ pub fn completions_decide()
         → ((x : ℕ) → x < length turns → SameTargets p (ds x) (es x)) → completions p ds 0 turns ≡ completions p es 0 turns }
 {}
 
-/// Draws that agree on targets and orders put the records out in the same order.
-pub fn orders_agree()
-    ensures { (p : Sizes) (d e : Draw) (h : List ℕ) → SameTargets p d e → SameOrders p d e → places p d h ≡ places p e h }
+/// Draws that agree on targets and orders put the records out in the same order. So two runs of one batch that succeed
+/// put out the same list.
+pub fn orders_agree<T>()
+    ensures places { (p : Sizes) (d e : Draw) (h : List ℕ) → SameTargets p d e → SameOrders p d e → places p d h ≡ places p e h }
+    ensures output { (p : Sizes) (ds es : ℕ → Draw) (hs : List (List ℕ)) (seen other : Seen) (a e : ℕ) (records out others : List T)
+        → ((x : ℕ) → x < length hs → SameTargets p (ds x) (es x)) → SameOrders p (ds a) (es a)
+        → Succeeds p ds hs seen a → Succeeds p es hs other e
+        → ComesOut p ds hs a records out → ComesOut p es hs e records others → out ≡ others }
 {}
