@@ -5,7 +5,7 @@ ghost use Rattle.std.specs.List.{range_with_len};
 ghost use Rattle.esa_floor.specs.Standing.{turns_made};
 ghost use Rattle.esa_params.specs.Sizes.{first};
 ghost use Rattle.esa_spec.specs.Turns.{order};
-ghost use Rattle.esa_spec.specs.Verdicts.{Import, imported, reached, steps_of};
+ghost use Rattle.esa_spec.specs.Verdicts.{Import, imported, reached, steps, steps_of};
 ghost use Rattle.esa_press.specs.Stepped.{AreCounted, AreMade};
 
 use crate::halt::Halt;
@@ -117,5 +117,38 @@ impl Press {
             return Err(halt);
         }
         self.put(floor.recorder(), attempt, output)
+    }
+
+    /// Compresses what was distributed: the steps of the definition, up to the first that can't be done, with an empty window
+    /// at first.
+    pub fn compress<V: Device, G: Told, C: Coins>(
+        &mut self,
+        floor: &mut Floor<V, G>,
+        coins: &C,
+        attempt: u32,
+    ) -> Result<(), Halt>
+        requires plan { self.old.plan ≡ floor.old.plan }
+        requires run { self.old.run ≡ floor.old.run }
+        requires coins { C.plan coins.now ≡ floor.old.plan }
+        requires attempt { attempt < floor.old.plan.attempts }
+        requires ready { floor.old.recorder.plan ≡ Some floor.old.plan }
+        requires room { floor.old.plan.b * (floor.old.plan.b + 1) + floor.old.plan.b ≤ floor.old.recorder.room }
+        requires counted { AreCounted floor.old.plan (G.draws attempt) (turns_made floor.old) floor.old.counts self.old.tails }
+        ensures made { AreMade V.faults floor.old.plan floor.old.run (G.draws attempt) (order floor.old.plan.b (turns_made floor.old)) attempt (steps floor.old.plan) floor.old.recorder floor.new.recorder result }
+        ensures floor { floor.new ≡ record floor.old { recorder = floor.new.recorder } }
+        ensures ready { floor.new.recorder.plan ≡ floor.old.recorder.plan }
+        ensures others { self.new ≡ record self.old { queue = self.new.queue; counts = self.new.counts } }
+    {
+        let plan = self.plan();
+        self.clear();
+        let mut from = 0;
+        for output in 0..plan.b() {
+            let end = (output + plan.w()).min(plan.b());
+            if let Err(halt) = self.put_out(floor, coins, attempt, output, from, end) {
+                return Err(halt);
+            }
+            from = end;
+        }
+        Ok(())
     }
 }
