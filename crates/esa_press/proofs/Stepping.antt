@@ -30,7 +30,7 @@ use Rattle.esa_spec.specs.declared.event.Verdict.{Verdict}
 use Rattle.esa_spec.specs.declared.event.Verdict.TheVariants as verdict
 use Rattle.esa_vault.specs.Seals.{opens}
 use Rattle.esa_vault.specs.declared.fault.VaultFault.TheVariants.{Device, Tampered}
-use Rattle.esa_press.specs.Fetched.{part_slot}
+use Rattle.esa_press.specs.Fetched.{GoesOnReading, part_slot}
 use Rattle.esa_press.specs.Pressed.{ImportAnswer, Pressed, PutAnswer}
 use Rattle.esa_press.specs.Stepped.{AreCounted, AreMade, EndsSteps, parts_counted}
 use Rattle.esa_press.specs.declared.halt.Halt.{Halt}
@@ -257,6 +257,13 @@ import_keeps faults p keys a i counts queue old new (Err (halt.Verdict v)) answe
     (answer.2.plan, let few = answer.2.few in let room = answer.2.room in omega (arith, few, room))
 import_keeps faults p keys a i counts queue old new (Err (halt.Fault fault)) answer =
     (answer.plan, let few = answer.few in let room = answer.room in omega (arith, few, room))
+
+-- and reads alone come to its log
+pub import_logs : {V : Type 0} (faults : V → ℕ) (p : Sizes) (keys : Keys) (a i : ℕ) (counts : List ℕ) (queue : List Item) (old new : Recorded V) (result : Result (Unit {0}) Halt)
+    → ImportAnswer faults p keys a i counts queue old new result → GoesOnReading old.log new.log
+import_logs faults p keys a i counts queue old new (Ok done) answer = answer.1.log
+import_logs faults p keys a i counts queue old new (Err (halt.Verdict v)) answer = answer.2.log
+import_logs faults p keys a i counts queue old new (Err (halt.Fault fault)) answer = answer.log
 
 -- one import more of those of an output bucket
 module _ {V : Type 0} (faults : V → ℕ) (p : Sizes) (keys : Keys) (d : Draw) (o : List ℕ) (a j from n : ℕ) where

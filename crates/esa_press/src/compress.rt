@@ -1,11 +1,16 @@
 //! The compression: what was distributed is imported, and put out.
 
-ghost use Rattle.std.specs.Prelude.{◌≡◌, ℕ, suc, ◌+◌, ◌-◌, ◌*◌, ◌<◌, ◌≤◌, [], ◌∷◌, Some, OnOk, length, map};
+ghost use Rattle.std.specs.Prelude.{◌≡◌, ℕ, suc, ◌+◌, ◌-◌, ◌*◌, ◌<◌, ◌≤◌, ◌++◌, List, [], ◌∷◌, Some, OnOk, length, map};
 ghost use Rattle.std.specs.List.{range_with_len};
+ghost use Rattle.esa_compress.specs.Held.{held_in};
+ghost use Rattle.esa_device.specs.Logs.{IsFaithful};
 ghost use Rattle.esa_floor.specs.Standing.{turns_made};
 ghost use Rattle.esa_params.specs.Sizes.{first};
 ghost use Rattle.esa_spec.specs.Turns.{order};
 ghost use Rattle.esa_spec.specs.Verdicts.{Import, imported, reached, steps, steps_of};
+ghost use Rattle.esa_report.specs.declared.item.Item.{Item};
+ghost use Rattle.esa_press.specs.Fetched.{AreStored, GoesOnReading};
+ghost use Rattle.esa_press.specs.Records.{imported_items};
 ghost use Rattle.esa_press.specs.Stepped.{AreCounted, AreMade};
 
 use crate::halt::Halt;
@@ -16,7 +21,7 @@ use esa_spec::Coins;
 
 impl Press {
     /// Imports a target of a floor, where so many places wait as were reached and not put out.
-    pub fn import_target<V: Device, G: Told, C: Coins>(
+    pub(crate) fn import_target<V: Device, G: Told, C: Coins>(
         &mut self,
         floor: &mut Floor<V, G>,
         coins: &C,
@@ -36,6 +41,10 @@ impl Press {
         requires waits { length self.old.queue ≡ reached floor.old.plan (G.draws attempt) target - first floor.old.plan output }
         ensures made { AreMade V.faults floor.old.plan floor.old.run (G.draws attempt) (order floor.old.plan.b (turns_made floor.old)) attempt (Import output target ∷ []) floor.old.recorder floor.new.recorder result }
         ensures waits { OnOk result (length self.new.queue ≡ reached floor.old.plan (G.draws attempt) (target + 1) - first floor.old.plan output) }
+        ensures log { GoesOnReading floor.old.recorder.log floor.new.recorder.log }
+        ensures gives { (chunks : ℕ → List Item) (left : List Item) → IsFaithful floor.old.plan floor.new.recorder.log
+            → AreStored floor.old.plan floor.old.run attempt target floor.old.recorder.log chunks left
+            → OnOk result (self.new.queue ≡ self.old.queue ++ held_in (imported_items floor.old.plan chunks left) (C.order_list coins.now attempt target)) }
         ensures floor { floor.new ≡ record floor.old { recorder = floor.new.recorder } }
         ensures ready { floor.new.recorder.plan ≡ floor.old.recorder.plan }
         ensures used { floor.old.recorder.room ≤ floor.new.recorder.room + (floor.old.plan.b + 1) }
@@ -46,7 +55,7 @@ impl Press {
     }
 
     /// Imports the targets from one on up to another, for an output bucket.
-    pub fn import_ahead<V: Device, G: Told, C: Coins>(
+    pub(crate) fn import_ahead<V: Device, G: Told, C: Coins>(
         &mut self,
         floor: &mut Floor<V, G>,
         coins: &C,
@@ -82,7 +91,7 @@ impl Press {
     }
 
     /// Imports what belongs in the window of an output bucket, and puts that bucket.
-    pub fn put_out<V: Device, G: Told, C: Coins>(
+    pub(crate) fn put_out<V: Device, G: Told, C: Coins>(
         &mut self,
         floor: &mut Floor<V, G>,
         coins: &C,
