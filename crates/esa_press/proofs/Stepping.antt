@@ -3,7 +3,9 @@ use Rattle.std.proofs.Common.{◌≡◌, ℕ, zero, suc, ◌+◌, ◌-◌, ◌<�
 use Rattle.std.specs.Prelude.{nat_lt}
 use Rattle.std.proofs.lemmas.Bool.{lt-ltb, le-ltb}
 use Rattle.std.specs.List.{range_with_len}
-use Rattle.esa_laws.proofs.Ranges.{range-suc}
+use Rattle.std.specs.List.{flat_map}
+use Rattle.std.proofs.lemmas.Grind.{flat_map-append}
+use Rattle.esa_laws.proofs.Ranges.{below-add, below-add-one, range-suc}
 use Rattle.esa_laws.proofs.SizeLaws.{first-more}
 use Rattle.std.proofs.lemmas.List.{length-map, map-append, take-append-drop, take_all}
 use Rattle.std.proofs.lemmas.List.FromFn.{length-range_with_len}
@@ -23,12 +25,12 @@ use Rattle.esa_report.specs.declared.item.Item.{Item}
 use Rattle.esa_spec.specs.Draws.{Draw}
 use Rattle.esa_spec.specs.Traces.{import_reads, read_chunk, step_accesses, walk}
 use Rattle.esa_spec.specs.Turns.{order}
-use Rattle.esa_spec.specs.Verdicts.{Step, Import, Put, first_bad, imported, is_good, reached, step_verdict}
+use Rattle.esa_spec.specs.Verdicts.{Step, Import, Put, first_bad, imported, is_good, reached, step_verdict, steps_of}
 use Rattle.esa_spec.specs.declared.event.Verdict.{Verdict}
 use Rattle.esa_spec.specs.declared.event.Verdict.TheVariants as verdict
 use Rattle.esa_vault.specs.Seals.{opens}
 use Rattle.esa_vault.specs.declared.fault.VaultFault.TheVariants.{Device, Tampered}
-use Rattle.esa_press.specs.Fetched.{part_slot}
+use Rattle.esa_press.specs.Fetched.{GoesOnReading, part_slot}
 use Rattle.esa_press.specs.Pressed.{ImportAnswer, Pressed, PutAnswer}
 use Rattle.esa_press.specs.Stepped.{AreCounted, AreMade, EndsSteps, parts_counted}
 use Rattle.esa_press.specs.declared.halt.Halt.{Halt}
@@ -256,6 +258,13 @@ import_keeps faults p keys a i counts queue old new (Err (halt.Verdict v)) answe
 import_keeps faults p keys a i counts queue old new (Err (halt.Fault fault)) answer =
     (answer.plan, let few = answer.few in let room = answer.room in omega (arith, few, room))
 
+-- and reads alone come to its log
+pub import_logs : {V : Type 0} (faults : V → ℕ) (p : Sizes) (keys : Keys) (a i : ℕ) (counts : List ℕ) (queue : List Item) (old new : Recorded V) (result : Result (Unit {0}) Halt)
+    → ImportAnswer faults p keys a i counts queue old new result → GoesOnReading old.log new.log
+import_logs faults p keys a i counts queue old new (Ok done) answer = answer.1.log
+import_logs faults p keys a i counts queue old new (Err (halt.Verdict v)) answer = answer.2.log
+import_logs faults p keys a i counts queue old new (Err (halt.Fault fault)) answer = answer.log
+
 -- one import more of those of an output bucket
 module _ {V : Type 0} (faults : V → ℕ) (p : Sizes) (keys : Keys) (d : Draw) (o : List ℕ) (a j from n : ℕ) where
   next_is : map (Import j) (range_with_len from (suc n)) ≡ map (Import j) (range_with_len from n) ++ Import j (from + n) ∷ []
@@ -297,3 +306,36 @@ put_waits told faults last_call p d keys a j queue rest old new n (Ok done) answ
     let left = ap length answer.1 ∙ length-drop (size p j) queue in
     (omega (arith, enough, next, put, waits), omega (arith, enough, next, put, waits, left))
 put_waits told faults last_call p d keys a j queue rest old new n (Err stop) answer put waits = tt
+
+-- imports only go on
+pub imported_rises : (p : Sizes) (j : ℕ) → 1 ≤ p.w → imported p j ≤ imported p (suc j)
+imported_rises p zero some = omega arith
+imported_rises p (suc j) some = omega arith
+
+pub imported_few : (p : Sizes) (j : ℕ) → imported p j ≤ p.b
+imported_few p zero = omega arith
+imported_few p (suc j) = omega arith
+
+-- one output bucket more
+module _ {V : Type 0} (faults : V → ℕ) (p : Sizes) (keys : Keys) (d : Draw) (o : List ℕ) (a : ℕ) where
+  abbrev upto_output : ℕ → List Step
+  upto_output j = flat_map (steps_of p) (below j)
+
+  pub made_output : (j : ℕ) (old mid new : Recorded V) (done : Unit {0}) (result : Result (Unit {0}) Halt) → AreMade faults p keys d o a (upto_output j) old mid (Ok done)
+      → AreMade faults p keys d o a (steps_of p j) mid new result → AreMade faults p keys d o a (upto_output (j + 1)) old new result
+  made_output j old mid new done result so_far one =
+      let is : upto_output (j + 1) ≡ upto_output j ++ steps_of p j =
+      ap (flat_map (steps_of p)) (below-add-one j) ∙ flat_map-append (steps_of p) (below j) (j ∷ [])
+      ∙ ap (λ (l : List Step). upto_output j ++ l) (append-nil (steps_of p j)) in
+      subst (λ (xs : List Step). AreMade faults p keys d o a xs old new result) (sym is)
+      (made_more faults p keys d a o (upto_output j) (steps_of p j) old mid new done result so_far one)
+
+  pub made_outputs_bad : (n m : ℕ) (old new : Recorded V) (stop : Halt) → n ≤ m → AreMade {T = Unit {0}} faults p keys d o a (upto_output n) old new (Err stop)
+      → AreMade {T = Unit {0}} faults p keys d o a (upto_output m) old new (Err stop)
+  made_outputs_bad n m old new stop within made =
+      let rest : m ≡ n + (m - n) = omega arith in
+      let is : upto_output m ≡ upto_output n ++ flat_map (steps_of p) (range_with_len n (m - n)) =
+      ap upto_output rest ∙ ap (flat_map (steps_of p)) (below-add n (m - n))
+      ∙ flat_map-append (steps_of p) (below n) (range_with_len n (m - n)) in
+      subst (λ (xs : List Step). AreMade {T = Unit {0}} faults p keys d o a xs old new (Err stop)) (sym is)
+      (made_bad faults p keys d a o (upto_output n) (flat_map (steps_of p) (range_with_len n (m - n))) old new stop made)

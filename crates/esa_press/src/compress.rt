@@ -1,11 +1,16 @@
 //! The compression: what was distributed is imported, and put out.
 
-ghost use Rattle.std.specs.Prelude.{◌≡◌, ℕ, suc, ◌+◌, ◌-◌, ◌*◌, ◌<◌, ◌≤◌, [], ◌∷◌, Some, OnOk, length, map};
+ghost use Rattle.std.specs.Prelude.{◌≡◌, ℕ, suc, ◌+◌, ◌-◌, ◌*◌, ◌<◌, ◌≤◌, ◌++◌, List, [], ◌∷◌, Some, OnOk, length, map};
 ghost use Rattle.std.specs.List.{range_with_len};
+ghost use Rattle.esa_compress.specs.Held.{held_in};
+ghost use Rattle.esa_device.specs.Logs.{IsFaithful};
 ghost use Rattle.esa_floor.specs.Standing.{turns_made};
 ghost use Rattle.esa_params.specs.Sizes.{first};
 ghost use Rattle.esa_spec.specs.Turns.{order};
-ghost use Rattle.esa_spec.specs.Verdicts.{Import, imported, reached, steps_of};
+ghost use Rattle.esa_spec.specs.Verdicts.{Import, imported, reached, steps, steps_of};
+ghost use Rattle.esa_report.specs.declared.item.Item.{Item};
+ghost use Rattle.esa_press.specs.Fetched.{AreStored, GoesOnReading};
+ghost use Rattle.esa_press.specs.Records.{imported_items};
 ghost use Rattle.esa_press.specs.Stepped.{AreCounted, AreMade};
 
 use crate::halt::Halt;
@@ -16,7 +21,7 @@ use esa_spec::Coins;
 
 impl Press {
     /// Imports a target of a floor, where so many places wait as were reached and not put out.
-    pub fn import_target<V: Device, G: Told, C: Coins>(
+    pub(crate) fn import_target<V: Device, G: Told, C: Coins>(
         &mut self,
         floor: &mut Floor<V, G>,
         coins: &C,
@@ -36,6 +41,10 @@ impl Press {
         requires waits { length self.old.queue ≡ reached floor.old.plan (G.draws attempt) target - first floor.old.plan output }
         ensures made { AreMade V.faults floor.old.plan floor.old.run (G.draws attempt) (order floor.old.plan.b (turns_made floor.old)) attempt (Import output target ∷ []) floor.old.recorder floor.new.recorder result }
         ensures waits { OnOk result (length self.new.queue ≡ reached floor.old.plan (G.draws attempt) (target + 1) - first floor.old.plan output) }
+        ensures log { GoesOnReading floor.old.recorder.log floor.new.recorder.log }
+        ensures gives { (chunks : ℕ → List Item) (left : List Item) → IsFaithful floor.old.plan floor.new.recorder.log
+            → AreStored floor.old.plan floor.old.run attempt target floor.old.recorder.log chunks left
+            → OnOk result (self.new.queue ≡ self.old.queue ++ held_in (imported_items floor.old.plan chunks left) (C.order_list coins.now attempt target)) }
         ensures floor { floor.new ≡ record floor.old { recorder = floor.new.recorder } }
         ensures ready { floor.new.recorder.plan ≡ floor.old.recorder.plan }
         ensures used { floor.old.recorder.room ≤ floor.new.recorder.room + (floor.old.plan.b + 1) }
@@ -46,7 +55,7 @@ impl Press {
     }
 
     /// Imports the targets from one on up to another, for an output bucket.
-    pub fn import_ahead<V: Device, G: Told, C: Coins>(
+    pub(crate) fn import_ahead<V: Device, G: Told, C: Coins>(
         &mut self,
         floor: &mut Floor<V, G>,
         coins: &C,
@@ -82,7 +91,7 @@ impl Press {
     }
 
     /// Imports what belongs in the window of an output bucket, and puts that bucket.
-    pub fn put_out<V: Device, G: Told, C: Coins>(
+    pub(crate) fn put_out<V: Device, G: Told, C: Coins>(
         &mut self,
         floor: &mut Floor<V, G>,
         coins: &C,
@@ -117,5 +126,38 @@ impl Press {
             return Err(halt);
         }
         self.put(floor.recorder(), attempt, output)
+    }
+
+    /// Compresses what was distributed: the steps of the definition, up to the first that can't be done, with an empty window
+    /// at first.
+    pub fn compress<V: Device, G: Told, C: Coins>(
+        &mut self,
+        floor: &mut Floor<V, G>,
+        coins: &C,
+        attempt: u32,
+    ) -> Result<(), Halt>
+        requires plan { self.old.plan ≡ floor.old.plan }
+        requires run { self.old.run ≡ floor.old.run }
+        requires coins { C.plan coins.now ≡ floor.old.plan }
+        requires attempt { attempt < floor.old.plan.attempts }
+        requires ready { floor.old.recorder.plan ≡ Some floor.old.plan }
+        requires room { floor.old.plan.b * (floor.old.plan.b + 1) + floor.old.plan.b ≤ floor.old.recorder.room }
+        requires counted { AreCounted floor.old.plan (G.draws attempt) (turns_made floor.old) floor.old.counts self.old.tails }
+        ensures made { AreMade V.faults floor.old.plan floor.old.run (G.draws attempt) (order floor.old.plan.b (turns_made floor.old)) attempt (steps floor.old.plan) floor.old.recorder floor.new.recorder result }
+        ensures floor { floor.new ≡ record floor.old { recorder = floor.new.recorder } }
+        ensures ready { floor.new.recorder.plan ≡ floor.old.recorder.plan }
+        ensures others { self.new ≡ record self.old { queue = self.new.queue; counts = self.new.counts } }
+    {
+        let plan = self.plan();
+        self.clear();
+        let mut from = 0;
+        for output in 0..plan.b() {
+            let end = (output + plan.w()).min(plan.b());
+            if let Err(halt) = self.put_out(floor, coins, attempt, output, from, end) {
+                return Err(halt);
+            }
+            from = end;
+        }
+        Ok(())
     }
 }

@@ -18,7 +18,7 @@ use esa_vault::{VaultFault, get_block_with, item_in_text};
 
 /// Reads the block of a slot into `sealed`, opens it into `text`, and has its items then. As many of them are no dummies
 /// as are counted. `items` is as it was where the block wasn't got.
-pub fn fetch_items<V: Device>(
+pub(crate) fn fetch_items<V: Device>(
     recorder: &mut Recorder<V>,
     plan: &Plan,
     keys: &Prepared,

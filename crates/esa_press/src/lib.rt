@@ -2,8 +2,8 @@
 //!
 //! An import reads the chunks and the tail of a target, each block into its place of one buffer, and moves the items into
 //! the window of esa_compress, in the order of the target. An output bucket is taken from the window, sealed and written.
-//! A tail is what is left in the stash for a target. This crate stands on the sealed blocks, esa_vault, and on the window.
-//! Only `make` takes memory.
+//! A tail is what is left in the stash for a target. This crate stands on the floor, esa_floor, on the
+//! sealed blocks, esa_vault, and on the window. Only `make` takes memory.
 #![tactic(auto)]
 
 mod compress;
@@ -15,7 +15,5 @@ mod press;
 mod room;
 mod store;
 
-pub use fetch::fetch_items;
 pub use halt::Halt;
 pub use press::Press;
-pub use store::store_items;

@@ -14,7 +14,7 @@ use esa_report::Item;
 use esa_vault::{VaultFault, put_block_with, put_items};
 
 /// Seals items as the block of a slot in an attempt, and writes it. `text` and `sealed` are room for the block.
-pub fn store_items<V: Device>(
+pub(crate) fn store_items<V: Device>(
     recorder: &mut Recorder<V>,
     plan: &Plan,
     keys: &Prepared,

@@ -1,13 +1,19 @@
-use Rattle.std.proofs.Common.{◌≡◌, ◌+◌, ℕ, List, length, sum, ap, ◌∙◌, subst, arith}
+use Rattle.std.proofs.Common.{◌++◌, OnOk, ◌≡◌, ◌+◌, ℕ, List, length, sum, ap, ◌∙◌, subst, arith}
 use Rattle.std.specs.Prelude.{slice_index}
 use Rattle.esa_floor.specs.Standing.{turns_made}
 use Rattle.esa_params.specs.Sizes.{Sizes}
 use Rattle.esa_device.specs.Recording.{Recorded}
 use Rattle.esa_press.specs.Pressed.{ImportAnswer, Pressed}
+use Rattle.esa_compress.specs.Held.{held_in}
+use Rattle.esa_device.specs.Logs.{IsFaithful}
+use Rattle.esa_envelope.specs.declared.keys.Keys.{Keys}
+use Rattle.esa_report.specs.declared.item.Item.{Item}
+use Rattle.esa_press.specs.Fetched.{AreStored, GoesOnReading}
+use Rattle.esa_press.specs.Records.{imported_items}
 use Rattle.esa_press.specs.Stepped.{parts_counted}
 use Rattle.esa_press.proofs.Counting.{parts_few, tail_few}
 use Rattle.esa_press.proofs.Fetching.{on_ok}
-use Rattle.esa_press.proofs.Stepping.{import_keeps, import_made, waits_few, waits_more}
+use Rattle.esa_press.proofs.Stepping.{import_keeps, import_logs, import_made, waits_few, waits_more}
 use Rattle.esa_press.proofs.press.Press.import_target.Goals as goal
 
 pub import-requires-clause-all : goal.import-requires-clause-all
@@ -80,3 +86,25 @@ returns-clause-used g c =
     let room = ap (λ (r : Recorded _). r.room) c.recorder.ensures.value in
     let same = ap (λ (x : Pressed). x.plan.b) c.count.ensures ∙ ap (λ (q : Sizes). q.b) c.requires.plan in
     omega (arith, keeps, room, same)
+
+pub returns-clause-log : goal.returns-clause-log
+returns-clause-log g c =
+    subst (λ (r : Recorded _). GoesOnReading r.log c.import.new.recorder.log) c.recorder.ensures.value
+    (import_logs g.V.Device.faults c.count.new.self.plan c.count.new.self.run c.args.attempt c.args.target c.count.new.self.counts c.count.new.self.queue c.recorder.result.now c.import.new.recorder c.import.result c.import.ensures.answer)
+
+pub returns-clause-gives : goal.returns-clause-gives
+returns-clause-gives g c =
+    let f = c.args.floor.now in
+    let w = c.count.new.self in
+    let plan_is : w.plan ≡ f.plan = ap (λ (x : Pressed). x.plan) c.count.ensures ∙ c.requires.plan in
+    let run_is : w.run ≡ f.run = ap (λ (x : Pressed). x.run) c.count.ensures ∙ c.requires.run in
+    let queue_is : w.queue ≡ c.args.self.now.queue = ap (λ (x : Pressed). x.queue) c.count.ensures in
+    let order = g.C.Coins.order_list c.args.coins.now c.args.attempt c.args.target in
+    subst (λ (q : List Item). (chunks : ℕ → List Item) (left : List Item) → IsFaithful f.plan c.import.new.recorder.log → AreStored f.plan f.run c.args.attempt c.args.target f.recorder.log chunks left
+    → OnOk c.import.result (c.import.new.self.queue ≡ q ++ held_in (imported_items f.plan chunks left) order)) queue_is
+    (subst (λ (r : Recorded _). (chunks : ℕ → List Item) (left : List Item) → IsFaithful f.plan c.import.new.recorder.log → AreStored f.plan f.run c.args.attempt c.args.target r.log chunks left
+    → OnOk c.import.result (c.import.new.self.queue ≡ w.queue ++ held_in (imported_items f.plan chunks left) order)) c.recorder.ensures.value
+    (subst (λ (k : Keys). (chunks : ℕ → List Item) (left : List Item) → IsFaithful f.plan c.import.new.recorder.log → AreStored f.plan k c.args.attempt c.args.target c.recorder.result.now.log chunks left
+    → OnOk c.import.result (c.import.new.self.queue ≡ w.queue ++ held_in (imported_items f.plan chunks left) order)) run_is
+    (subst (λ (p : Sizes). (chunks : ℕ → List Item) (left : List Item) → IsFaithful p c.import.new.recorder.log → AreStored p w.run c.args.attempt c.args.target c.recorder.result.now.log chunks left
+    → OnOk c.import.result (c.import.new.self.queue ≡ w.queue ++ held_in (imported_items p chunks left) order)) plan_is c.import.ensures.gives)))

@@ -1,7 +1,6 @@
-use Rattle.std.proofs.Common.{◌≡◌, ◌+◌, ◌-◌, ◌*◌, ◌<◌, ◌≤◌, ℕ, suc, [], ◌∷◌, ◌++◌, List, Ok, Err, Some, OnOk, length, map, refl, sym, ap, ◌∙◌, subst, arith}
+use Rattle.std.proofs.Common.{◌≡◌, ◌+◌, ◌-◌, ◌≤◌, ℕ, suc, [], ◌∷◌, ◌++◌, Err, map, ap, ◌∙◌, subst, arith}
 use Rattle.std.specs.List.{range_with_len}
 use Rattle.esa_compress.proofs.ImportLaws.{climbs}
-use Rattle.esa_floor.specs.Parts.{Parts}
 use Rattle.esa_floor.specs.Standing.{turns_made}
 use Rattle.esa_params.specs.Sizes.{Sizes, first}
 use Rattle.esa_spec.specs.Turns.{order}
@@ -11,7 +10,7 @@ use Rattle.esa_envelope.specs.declared.keys.Keys.{Keys}
 use Rattle.esa_press.specs.Pressed.{Pressed, PutAnswer}
 use Rattle.esa_press.specs.Stepped.{AreMade}
 use Rattle.esa_press.proofs.Fetching.{on_ok}
-use Rattle.esa_press.proofs.Stepping.{made_bad, made_more, put_keeps, put_one, put_waits}
+use Rattle.esa_press.proofs.Stepping.{made_bad, made_more, put_one, put_waits}
 use Rattle.esa_press.proofs.press.Press.put_out.Goals as goal
 
 pub put-requires-clause-bucket : goal.put-requires-clause-bucket

@@ -1,0 +1,22 @@
+-- The output buckets before this one are put out.
+use Rattle.std.proofs.Common.{◌≡◌, ◌+◌, ◌-◌, ◌*◌, ◌≤◌, Ok, length}
+use Rattle.std.specs.List.{flat_map}
+use Rattle.esa_floor.specs.Standing.{turns_made}
+use Rattle.esa_params.specs.Sizes.{below, first}
+use Rattle.esa_spec.specs.Turns.{order}
+use Rattle.esa_spec.specs.Verdicts.{imported, reached, steps_of}
+use Rattle.esa_press.specs.Stepped.{AreMade}
+use Rattle.esa_press.proofs.press.Press.compress.Given as goal
+
+abbrev pub invariant-loop-output : goal.invariant-loop-output
+invariant-loop-output g l = record {
+  from : l.from ≡ imported l.fn.floor.plan l.output;
+  floor : l.floor ≡ record l.fn.floor { recorder = l.floor.recorder };
+  others : l.self ≡ record l.fn.self { queue = l.self.queue; counts = l.self.counts };
+  ready : l.floor.recorder.plan ≡ l.fn.floor.recorder.plan;
+  used : l.fn.floor.recorder.room ≤ l.floor.recorder.room + (l.from * (l.fn.floor.plan.b + 1) + l.output);
+  put : first l.fn.floor.plan l.output ≤ reached l.fn.floor.plan (g.G.Told.draws l.attempt) l.from;
+  waits : length l.self.queue ≡ reached l.fn.floor.plan (g.G.Told.draws l.attempt) l.from - first l.fn.floor.plan l.output;
+  made : AreMade {T = Unit {0}} g.V.Device.faults l.fn.floor.plan l.fn.floor.run (g.G.Told.draws l.attempt) (order l.fn.floor.plan.b (turns_made l.fn.floor)) l.attempt
+      (flat_map (steps_of l.fn.floor.plan) (below l.output)) l.fn.floor.recorder l.floor.recorder (Ok tt);
+}
