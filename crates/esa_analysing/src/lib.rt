@@ -1,5 +1,5 @@
-//! The commands of the role that analyses: `analyse`, by which a forward file becomes a database, `histogram`, which prints a
-//! database, and `upgrade`, which writes it in version 2.
+//! The commands of the role that analyses: `analyse`, by which a forward file becomes a database, `histogram`, which
+//! prints a database, and `upgrade`, which writes it in version 2.
 #![tactic(auto)]
 
 mod analyse_command;

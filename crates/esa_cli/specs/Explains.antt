@@ -22,7 +22,8 @@ use Rattle.esa_cli.specs.Plain.{steps_of}
 abbrev pub Accepts : (Reads → Step Work) → Files → (Work → Type 0) → Type 0
 Accepts steps files P = (work : Work) × (steps (reads_of files) ≡ accepted work) × P work
 
--- A file wasn't read: all steps before it are accepted, the cabinet's count rose or the file isn't there, and nothing changed.
+-- A file wasn't read: all steps before it are accepted, the cabinet's count rose or the file isn't there, and nothing
+-- changed.
 pub record IsUnread (steps : Reads → Step Work) (files : Files) (before now : ℕ) (left : Option Files) (source : Source) : Type 0 where
   pub reached : steps (without source (reads_of files)) ≡ missing source
   pub cause : Rose before now ⊎ (steps (reads_of files) ≡ missing source)

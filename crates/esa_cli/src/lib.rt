@@ -1,4 +1,4 @@
-//! Every command by its word: from the words of a command line to the files that it writes and the lines that it prints.
+//! Every command by its word: from the words of a command line to the files and lines that it writes and prints.
 #![tactic(auto)]
 
 mod call;

@@ -66,9 +66,9 @@ fn perform<K: Cabinet, P: Printer>(
 
 /// Runs the command that the words after the program's name ask for, on one thread. It waits for nobody and returns.
 ///
-/// What the files of the cabinet hold decides what is written and printed. Only want of memory is free. `runs` says so of
-/// every cabinet and printer, by what they were heard to give and take, and the others are what follows of it: `explained`
-/// for a cabinet that tells its files, and `printed` for a printer that tells.
+/// What the files of the cabinet hold decides what is written and printed. Only want of memory is free. `runs` says so
+/// of every cabinet and printer, by what they were heard to give and take. `unbuilt` holds beside it, and the others are
+/// what follows: `explained` for a cabinet that tells its files, and `printed` for a printer that tells.
 pub fn esa_plain<K: Cabinet, P: Printer>(
     alloc: Global,
     words: &[String],

@@ -15,8 +15,8 @@ use Rattle.esa_command.specs.Step.{Step, accepted, refused, missing, Reads, read
 abbrev pub IsMissing : {A : Type 0} → Option Files → (Reads → Step A) → Source → Type 0
 IsMissing told steps source = (files : Files) × (told ≡ Some files) × (steps (reads_of files) ≡ missing source)
 
--- By what was read: it is refused so by the steps, and for what is wrong with a file; a file isn't read only where the steps before it are accepted, and
--- where the count rose or the cabinet tells that it isn't there.
+-- By what was read: it is refused so by the steps, and for what is wrong with a file. A file isn't read only where the
+-- steps before it are accepted, and where the count rose or the cabinet tells that it isn't there.
 abbrev pub StopsBy : {A : Type 0} → Option Files → (Reads → Step A) → (first last before now : ℕ) → Stop → Reads → Type 0
 StopsBy told steps first last before now (Refused refusal) read = (steps read ≡ refused refusal) × (now ≡ before) × IsOfInput refusal
 StopsBy told steps first last before now (Unread source) read =

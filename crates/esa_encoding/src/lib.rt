@@ -1,4 +1,5 @@
-//! The commands of the role that encodes: `gen`, which makes up reports, and `encode`, by which reports become submissions.
+//! The commands of the role that encodes: `gen`, which makes up reports, and `encode`, by which reports become
+//! submissions.
 #![tactic(auto)]
 
 mod encode_command;

@@ -24,8 +24,8 @@ use Rattle.esa_job.specs.declared.field.JobField.TheVariants as field
 use Rattle.esa_job.specs.declared.keys.KeyField.TheVariants as key
 use Rattle.esa_refusal.specs.declared.refusal.Refusal.{Refusal}
 
--- What a file is refused for, where that has several words. Of a file's bytes alone none of the readers' definitions says
--- that memory is wanted, so the last case of each only fills the table.
+-- What a file is refused for, where that has several words. Of a file's bytes alone none of the readers' definitions
+-- says that memory is wanted, so the last case of each only fills the table.
 abbrev pub job_refusal : JobRefused → Refusal
 job_refusal (job.Field field) = refusal.Job field
 job_refusal (job.Params field) = refusal.Params field

@@ -24,7 +24,8 @@ use Rattle.esa_command.specs.Taking.{read_step}
 abbrev pub sizes_asked : Request → Sizes
 sizes_asked job = sizes_of (numbers_of (params_of job)) (number_of job field.Records) (form_asked job)
 
--- its seed, which is there where coins aren't, and how targets are drawn from it: each by itself, where the job doesn't say
+-- its seed, which is there where coins aren't, and how targets are drawn from it: each by itself, where the job doesn't
+-- say
 abbrev pub seeds_asked : Request → Seeds
 seeds_asked job = record { seed = unwrap_or (seed_at job) (replicate 32 0); draw = unwrap_or (draw_at job) Single; plan = sizes_asked job }
 

@@ -127,8 +127,8 @@ fn foretell<K: Cabinet, P: Printer>(
     Ok(work_plan(cabinet, printer, input.job.trace(), forecast))
 }
 
-/// Foretells how the attempts of a shuffle end and which accesses it makes, from its sizes, its coins and the turns that
-/// are handed in. It writes the trace, where the job names a file for it, and prints a line for each attempt up to the
+/// Foretells how the attempts of a shuffle end and which accesses it makes, from its sizes, its coins and the turns
+/// that are handed in. It writes the trace, where the job names a file for it, and prints a line for each attempt up to the
 /// first that succeeds, and then the number of accesses.
 pub fn plan<K: Cabinet, P: Printer>(
     alloc: Global,
