@@ -1,6 +1,6 @@
 //! How a crew begins an attempt.
 
-ghost use Rattle.std.specs.Prelude.{◌≡◌, ℕ, ◌<◌, [], length};
+ghost use Rattle.std.specs.Prelude.{◌≡◌, ◌<◌, [], length};
 ghost use Rattle.esa_floor.specs.Parts.{begun_as};
 ghost use Rattle.esa_floor.specs.Standing.{Stands, turns_made};
 ghost use Rattle.esa_crew.specs.Posts.{AreMembers, ArePosts};

@@ -1,6 +1,6 @@
 //! Blocks of items that are read.
 
-ghost use Rattle.std.specs.Prelude.{◌≡◌, ◌≢◌, ℕ, ◌+◌, ◌*◌, ◌<◌, ◌≤◌, Some, All, OnOk, OnErr, length, map};
+ghost use Rattle.std.specs.Prelude.{◌≡◌, ◌≢◌, ◌+◌, ◌*◌, ◌<◌, ◌≤◌, Some, All, OnOk, OnErr, length, map};
 ghost use Rattle.esa_params.specs.Sizes.{below};
 ghost use Rattle.esa_params.specs.Slots.{IsPlanned, block_length, item_length, plain_length};
 ghost use Rattle.esa_compress.specs.Held.{held_count};
