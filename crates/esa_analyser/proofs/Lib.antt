@@ -10,4 +10,3 @@ pub mod Counting
 pub mod RunWriting
 pub mod KeptLaws
 pub mod KeptWriting
-pub mod Printing

@@ -8,7 +8,6 @@ pub mod Repeated
 pub mod RunBytes
 pub mod Kept
 pub mod KeptBytes
-pub mod Histogram
 pub mod Counted
 pub mod Inside
 pub use Rattle.esa_params.specs.Form

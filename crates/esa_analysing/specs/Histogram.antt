@@ -3,7 +3,7 @@ use Rattle.std.specs.Prelude.{ℕ, Bool, List, [], ◌∷◌, ◌++◌, map}
 use Rattle.esa_job.specs.declared.command.Command.TheVariants.{Histogram}
 use Rattle.esa_job.specs.Request.{Request}
 use Rattle.esa_analyser.specs.Database.{Database}
-use Rattle.esa_analyser.specs.Histogram.{row_text, unopened_text}
+use Rattle.esa_analysing.specs.RowText.{row_text, unopened_text}
 use Rattle.esa_analyser.specs.Stored.{Stored}
 use Rattle.esa_refusal.specs.declared.status.Status.TheVariants as status
 use Rattle.esa_command.specs.Step.{Step, ◌>>=◌, accepted, Reads}

@@ -1,7 +1,7 @@
 //! The command histogram: a database is printed for people.
 
 ghost use Rattle.std.specs.Prelude.{map};
-ghost use Rattle.esa_analyser.specs.Histogram.{row_text};
+ghost use Rattle.esa_analysing.specs.RowText.{row_text};
 ghost use Rattle.esa_analysing.specs.Histogram.{histogram_texts, histogram_steps};
 ghost use Rattle.esa_command.specs.Doing.{PrintsAll};
 ghost use Rattle.esa_command.specs.Ends.{Ends};

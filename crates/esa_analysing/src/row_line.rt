@@ -2,7 +2,7 @@
 
 ghost use Rattle.std.specs.Prelude.{◌≡◌, ◌+◌, ◌*◌, ◌<◌, ◌≤◌, ◌++◌, [], length};
 ghost use Rattle.esa_bytes.specs.Decimal.{decimal_of};
-ghost use Rattle.esa_analyser.specs.Histogram.{shown, hex_digit, placed, row_text, unopened_text};
+ghost use Rattle.esa_analysing.specs.RowText.{shown, hex_digit, placed, row_text, unopened_text};
 
 use esa_bytes::put_decimal;
 use std::marker::Model;

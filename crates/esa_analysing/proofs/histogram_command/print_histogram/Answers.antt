@@ -1,6 +1,6 @@
 use Rattle.std.proofs.Common.{◌≡◌, [], ◌∷◌, ◌++◌, map, ap, subst, ◌∙◌}
 use Rattle.std.proofs.lemmas.Result.{err_from_is_err_and}
-use Rattle.esa_analyser.specs.Histogram.{row_text, unopened_text}
+use Rattle.esa_analysing.specs.RowText.{row_text, unopened_text}
 use Rattle.esa_command.specs.Doing.{PrintsAll}
 use Rattle.esa_command.specs.Stand.{stand}
 use Rattle.esa_command.proofs.Printing.{prints_last, cut_before}

@@ -1,7 +1,7 @@
 use Rattle.std.proofs.Common.{◌≡◌, ◌<◌, ◌≤◌, [], length, map, get_or, sym, ◌∙◌, arith}
 use Rattle.std.proofs.lemmas.List.{get_or-map, length-map}
 use Rattle.std.proofs.lemmas.Result.{err_from_is_err_and}
-use Rattle.esa_analyser.specs.Histogram.{row_text}
+use Rattle.esa_analysing.specs.RowText.{row_text}
 use Rattle.esa_command.specs.Stand.{stand}
 use Rattle.esa_command.proofs.Printing.{none_printed, printed_next, printed_end, cut_next}
 use Rattle.esa_analysing.proofs.histogram_command.print_rows.Goals as goal

@@ -1,5 +1,5 @@
 use Rattle.std.proofs.Common.{map, take}
-use Rattle.esa_analyser.specs.Histogram.{row_text}
+use Rattle.esa_analysing.specs.RowText.{row_text}
 use Rattle.esa_command.specs.Doing.{ArePrinted}
 use Rattle.esa_command.specs.Stand.{stand}
 use Rattle.esa_analysing.proofs.histogram_command.print_rows.Given as goal

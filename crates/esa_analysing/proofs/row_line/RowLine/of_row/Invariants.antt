@@ -1,6 +1,6 @@
 use Rattle.std.proofs.Common.{◌≡◌, ◌+◌, ◌*◌, ◌≤◌, [], ◌∷◌, ◌++◌, length, take}
 use Rattle.std.specs.Prelude.{flat_map}
-use Rattle.esa_analyser.specs.Histogram.{placed, shown}
+use Rattle.esa_analysing.specs.RowText.{placed, shown}
 use Rattle.esa_analysing.proofs.row_line.RowLine.of_row.Given as goal
 
 abbrev pub invariant-loop-byte : goal.invariant-loop-byte

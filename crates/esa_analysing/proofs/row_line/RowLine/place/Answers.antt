@@ -1,6 +1,6 @@
 use Rattle.std.proofs.Common.{length, take, replicate, refl, ap, ◌∙◌}
 use Rattle.esa_bytes.specs.Decimal.{decimal_of}
-use Rattle.esa_analyser.proofs.Printing.{placed_parts}
+use Rattle.esa_analysing.proofs.Placing.{placed_parts}
 use Rattle.esa_analysing.proofs.row_line.RowLine.place.Goals as goal
 
 pub returns-clause-text : goal.returns-clause-text

@@ -1,8 +1,6 @@
--- What is printed of a database.
+-- What is printed of a row of a database, and of the envelopes that gave no value.
 use Rattle.std.specs.Prelude.{ℕ, ◌+◌, ◌-◌, ◌/◌, ◌%◌, ◌==◌, ◌&&◌, nat_lt, nat_le, if◌then◌else◌, List, [], ◌∷◌, ◌++◌, length, replicate, flat_map, codes}
 use Rattle.esa_bytes.specs.Decimal.{decimal_of}
-use Rattle.esa_outside.specs.Told.{line_of}
-use Rattle.esa_analyser.specs.Database.{Database}
 
 -- a digit from `0` to `9` or from `a` to `f`
 abbrev pub hex_digit : ℕ → ℕ
@@ -25,10 +23,3 @@ row_text row = placed row.1 ++ 32 ∷ [] ++ flat_map shown row.0
 
 abbrev pub unopened_text : ℕ → List ℕ
 unopened_text unopened = codes "unopened " ++ decimal_of unopened
-
--- a line for each row, and one for the envelopes that gave no value
-abbrev pub row_line : List ℕ × ℕ → List ℕ
-row_line row = line_of (row_text row)
-
-abbrev pub histogram_text : Database → List ℕ
-histogram_text database = flat_map row_line database.rows ++ line_of (unopened_text database.unopened)
