@@ -149,6 +149,8 @@ module _ {V : Type 0} (told : V → Option (List (List ℕ))) (faults : V → �
         ∙ ap (λ (l : List Access). l ++ written_tail old.plan a t ∷ []) before.trace
         ∙ append_assoc old.recorder.trace (map (written_tail old.plan a) (below t)) (written_tail old.plan a t ∷ [])
         ∙ ap (λ (l : List Access). old.recorder.trace ++ l) (sym (map-range_with_len_more (written_tail old.plan a) 0 t t (omega arith)));
+    room = let one = before.room in let other = answer.3.recorded.room in omega (arith, one, other);
+    ready = answer.3.recorded.plan ∙ before.ready;
     others = answer.1 ∙ ap (λ (h : Held). record old { recorder = new.recorder; stash = h }) (sym (ap (λ (f : Parts V). f.stash) answer.1));
     cause = subst (λ (n : ℕ). Rose n (faults new.recorder.device)) before.calm answer.3.answer.1;
   }
