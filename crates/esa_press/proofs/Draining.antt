@@ -12,12 +12,12 @@ use Rattle.esa_device.specs.Recording.{Recorded}
 use Rattle.esa_device.proofs.LogLaws.{took-elsewhere, took-written}
 use Rattle.esa_floor.specs.Parts.{Counted, Parts}
 use Rattle.esa_floor.specs.Standing.{IsSpread}
-use Rattle.esa_laws.proofs.TotalLaws.{all-exchanged}
+use Rattle.esa_laws.proofs.TotalLaws.{all-exchanged, once}
 use Rattle.esa_outside.specs.Cause.{Rose}
-use Rattle.esa_spec.specs.Draws.{Draw}
+use Rattle.esa_spec.specs.Draws.{Draw, IsDrawn}
 use Rattle.esa_spec.specs.Lines.{backlog}
-use Rattle.esa_spec.specs.Turns.{order}
-use Rattle.esa_spec.specs.Verdicts.{is_left}
+use Rattle.esa_spec.specs.Turns.{order, writes}
+use Rattle.esa_spec.specs.Verdicts.{is_left, left}
 use Rattle.esa_vault.specs.declared.fault.VaultFault.TheVariants.{Device, Tampered}
 use Rattle.esa_laws.proofs.Ranges.{below-add, find-below-suc}
 use Rattle.esa_params.specs.Sizes.{Sizes, below}
@@ -33,6 +33,7 @@ use Rattle.esa_vault.specs.Traffic.{IsWritten}
 use Rattle.esa_press.specs.Drained.{AreDrained, DrainAnswer, DrainEnd, FailsAt, tail_block}
 use Rattle.esa_press.specs.declared.halt.Halt.{Halt}
 use Rattle.esa_press.specs.declared.halt.Halt.TheVariants.{Verdict, Fault}
+use Rattle.esa_press.specs.Stepped.{AreCounted}
 use Rattle.esa_press.specs.Records.{sealed_records}
 
 -- none passes, and the first that does
@@ -148,6 +149,8 @@ module _ {V : Type 0} (told : V → Option (List (List ℕ))) (faults : V → �
         ∙ ap (λ (l : List Access). l ++ written_tail old.plan a t ∷ []) before.trace
         ∙ append_assoc old.recorder.trace (map (written_tail old.plan a) (below t)) (written_tail old.plan a t ∷ [])
         ∙ ap (λ (l : List Access). old.recorder.trace ++ l) (sym (map-range_with_len_more (written_tail old.plan a) 0 t t (omega arith)));
+    room = let one = before.room in let other = answer.3.recorded.room in omega (arith, one, other);
+    ready = answer.3.recorded.plan ∙ before.ready;
     others = answer.1 ∙ ap (λ (h : Held). record old { recorder = new.recorder; stash = h }) (sym (ap (λ (f : Parts V). f.stash) answer.1));
     cause = subst (λ (n : ℕ). Rose n (faults new.recorder.device)) before.calm answer.3.answer.1;
   }
@@ -204,3 +207,16 @@ noted_more tails t f count inside is before i i_in = elim (cases_lt i t) [
       let same : i ≡ t = omega arith in
       subst (λ (n : ℕ). get_or (set tails t count) n 0 ≡ f n) (sym same) (get_or-set_same tails t count 0 inside ∙ is)
 ]
+
+-- where nothing is left, the compression has its counts
+pub counted_then : (p : Sizes) (d : Draw) (h : List ℕ) (stash : Held) (counts : List ℕ) (counted : Counted) (tails : List ℕ) → IsDrawn p d → IsSpread p d h stash counts counted
+    → counted.writes ≡ p.b * p.b → left p d (order p.b h) ≡ None → ((i : ℕ) → i < p.b → get_or tails i 0 ≡ length (queue_at stash i)) → AreCounted p d h counts tails
+counted_then p d h stash counts counted tails drawn spread all fits noted =
+    let wrote : writes p.b h ≡ p.b * p.b = sym spread.writes ∙ all in
+    record {
+      drawn = drawn;
+      all = wrote;
+      fits = fits;
+      chunks = λ j i j_in i_in. spread.chunks j i i_in (omega (arith, once p.b h j wrote j_in));
+      waits = λ i i_in. noted i i_in ∙ all_waits p d h stash counts counted spread all i i_in;
+    }

@@ -7,7 +7,7 @@ use Rattle.std.specs.List.{flat_map}
 use Rattle.std.proofs.lemmas.Grind.{flat_map-append}
 use Rattle.esa_laws.proofs.Ranges.{below-add, below-add-one, range-suc}
 use Rattle.esa_laws.proofs.SizeLaws.{first-more}
-use Rattle.std.proofs.lemmas.List.{length-map, map-append, take-append-drop, take_all}
+use Rattle.std.proofs.lemmas.List.{length-take-le, length-map, map-append, take-append-drop, take_all}
 use Rattle.std.proofs.lemmas.List.FromFn.{length-range_with_len}
 use Rattle.esa_compress.proofs.ImportLaws.{few-reached, import-counted, put-counted, waiting-more}
 use Rattle.esa_compress.specs.Imported.{parts_of}
@@ -29,8 +29,9 @@ use Rattle.esa_spec.specs.Verdicts.{Step, Import, Put, first_bad, imported, is_g
 use Rattle.esa_spec.specs.declared.event.Verdict.{Verdict}
 use Rattle.esa_spec.specs.declared.event.Verdict.TheVariants as verdict
 use Rattle.esa_vault.specs.Seals.{opens}
+use Rattle.esa_vault.specs.declared.fault.VaultFault.{VaultFault}
 use Rattle.esa_vault.specs.declared.fault.VaultFault.TheVariants.{Device, Tampered}
-use Rattle.esa_press.specs.Fetched.{GoesOnReading, part_slot}
+use Rattle.esa_press.specs.Fetched.{GoesOnReading, IsFetched, part_slot}
 use Rattle.esa_press.specs.Pressed.{ImportAnswer, Pressed, PutAnswer}
 use Rattle.esa_press.specs.Stepped.{AreCounted, AreMade, EndsSteps, parts_counted}
 use Rattle.esa_press.specs.declared.halt.Halt.{Halt}
@@ -257,6 +258,34 @@ import_keeps faults p keys a i counts queue old new (Err (halt.Verdict v)) answe
     (answer.2.plan, let few = answer.2.few in let room = answer.2.room in omega (arith, few, room))
 import_keeps faults p keys a i counts queue old new (Err (halt.Fault fault)) answer =
     (answer.plan, let few = answer.few in let room = answer.room in omega (arith, few, room))
+
+-- each access takes its room
+fetch_totals : {V T : Type 0} (faults : V → ℕ) (p : Sizes) (keys : Keys) (a i : ℕ) (counts : List ℕ) (old new : Recorded V) (result : Result T VaultFault)
+    → IsFetched faults p keys a i counts (p.b + 1) old new result → length new.trace + new.room ≡ length old.trace + old.room
+fetch_totals faults p keys a i counts old new result fetched =
+    let few = fetched.few in
+    let room = fetched.room in
+    let some = length-take-le fetched.made (import_reads p a i) (omega (arith, few, length-reads p a i)) in
+    let long = ap length fetched.trace ∙ length-append old.trace (take fetched.made (import_reads p a i)) in
+    omega (arith, room, some, long)
+
+pub import_totals : {V : Type 0} (faults : V → ℕ) (p : Sizes) (keys : Keys) (a i : ℕ) (counts : List ℕ) (queue : List Item) (old new : Recorded V) (result : Result (Unit {0}) Halt)
+    → ImportAnswer faults p keys a i counts queue old new result → length new.trace + new.room ≡ length old.trace + old.room
+import_totals faults p keys a i counts queue old new (Ok done) answer = fetch_totals faults p keys a i counts old new (Ok done) answer.1
+import_totals faults p keys a i counts queue old new (Err (halt.Verdict v)) answer = fetch_totals {T = Unit {0}} faults p keys a i counts old new (Ok tt) answer.2
+import_totals faults p keys a i counts queue old new (Err (halt.Fault fault)) answer = fetch_totals {T = Unit {0}} faults p keys a i counts old new (Err fault) answer
+
+pub put_totals : {V : Type 0} (told : V → Option (List (List ℕ))) (faults : V → ℕ) (last_call : V → Option (Op × ℕ)) (p : Sizes) (keys : Keys) (a j : ℕ) (queue rest : List Item) (old new : Recorded V) (result : Result (Unit {0}) Halt)
+    → PutAnswer told faults last_call p keys a j queue rest old new result → length new.trace + new.room ≡ length old.trace + old.room
+put_totals told faults last_call p keys a j queue rest old new (Ok done) answer =
+    let room = answer.2.recorded.room in
+    let long = ap length answer.2.recorded.trace ∙ length-append old.trace (access_of p a Writes (at Output j) ∷ []) in
+    omega (arith, room, long)
+put_totals told faults last_call p keys a j queue rest old new (Err (halt.Verdict v)) answer = ap (λ (r : Recorded _). length r.trace + r.room) answer.3
+put_totals told faults last_call p keys a j queue rest old new (Err (halt.Fault fault)) answer =
+    let room = answer.2.recorded.room in
+    let long = ap length answer.2.recorded.trace ∙ length-append old.trace (access_of p a Writes (at Output j) ∷ []) in
+    omega (arith, room, long)
 
 -- and reads alone come to its log
 pub import_logs : {V : Type 0} (faults : V → ℕ) (p : Sizes) (keys : Keys) (a i : ℕ) (counts : List ℕ) (queue : List Item) (old new : Recorded V) (result : Result (Unit {0}) Halt)

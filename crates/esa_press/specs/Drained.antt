@@ -53,6 +53,8 @@ pub record AreDrained {V : Type 0} (faults : V → ℕ) (attempt t : ℕ) (old n
 pub record FailsAt {V : Type 0} (faults : V → ℕ) (attempt i number : ℕ) (old new : Parts V) : Type 0 where
   pub slot : number ≡ number_of old.plan (at Tail i)
   pub trace : new.recorder.trace ≡ old.recorder.trace ++ map (written_tail old.plan attempt) (below (i + 1))
+  pub room : old.recorder.room ≡ new.recorder.room + (i + 1)
+  pub ready : new.recorder.plan ≡ old.recorder.plan
   pub others : new ≡ record old { recorder = new.recorder; stash = new.stash }
   pub cause : Rose (faults old.recorder.device) (faults new.recorder.device)
 

@@ -47,6 +47,7 @@ impl Press {
             → OnOk result (self.new.queue ≡ self.old.queue ++ held_in (imported_items floor.old.plan chunks left) (C.order_list coins.now attempt target)) }
         ensures floor { floor.new ≡ record floor.old { recorder = floor.new.recorder } }
         ensures ready { floor.new.recorder.plan ≡ floor.old.recorder.plan }
+        ensures total { length floor.new.recorder.trace + floor.new.recorder.room ≡ length floor.old.recorder.trace + floor.old.recorder.room }
         ensures used { floor.old.recorder.room ≤ floor.new.recorder.room + (floor.old.plan.b + 1) }
         ensures others { self.new ≡ record self.old { queue = self.new.queue; counts = self.new.counts } }
     {
@@ -79,6 +80,7 @@ impl Press {
         ensures waits { OnOk result (length self.new.queue ≡ reached floor.old.plan (G.draws attempt) end - first floor.old.plan output) }
         ensures floor { floor.new ≡ record floor.old { recorder = floor.new.recorder } }
         ensures ready { floor.new.recorder.plan ≡ floor.old.recorder.plan }
+        ensures total { length floor.new.recorder.trace + floor.new.recorder.room ≡ length floor.old.recorder.trace + floor.old.recorder.room }
         ensures used { floor.old.recorder.room ≤ floor.new.recorder.room + (end - from) * (floor.old.plan.b + 1) }
         ensures others { self.new ≡ record self.old { queue = self.new.queue; counts = self.new.counts } }
     {
@@ -119,6 +121,7 @@ impl Press {
         ensures waits { OnOk result (length self.new.queue ≡ reached floor.old.plan (G.draws attempt) end - first floor.old.plan (output + 1)) }
         ensures floor { floor.new ≡ record floor.old { recorder = floor.new.recorder } }
         ensures ready { floor.new.recorder.plan ≡ floor.old.recorder.plan }
+        ensures total { length floor.new.recorder.trace + floor.new.recorder.room ≡ length floor.old.recorder.trace + floor.old.recorder.room }
         ensures used { floor.old.recorder.room ≤ floor.new.recorder.room + ((end - from) * (floor.old.plan.b + 1) + 1) }
         ensures others { self.new ≡ record self.old { queue = self.new.queue; counts = self.new.counts } }
     {
@@ -146,6 +149,7 @@ impl Press {
         ensures made { AreMade V.faults floor.old.plan floor.old.run (G.draws attempt) (order floor.old.plan.b (turns_made floor.old)) attempt (steps floor.old.plan) floor.old.recorder floor.new.recorder result }
         ensures floor { floor.new ≡ record floor.old { recorder = floor.new.recorder } }
         ensures ready { floor.new.recorder.plan ≡ floor.old.recorder.plan }
+        ensures total { length floor.new.recorder.trace + floor.new.recorder.room ≡ length floor.old.recorder.trace + floor.old.recorder.room }
         ensures others { self.new ≡ record self.old { queue = self.new.queue; counts = self.new.counts } }
     {
         let plan = self.plan();

@@ -2,9 +2,11 @@
 
 ghost use Rattle.std.specs.Prelude.{◌≡◌, ℕ, ◌*◌, ◌<◌, ◌≤◌, Some, OnOk, length, slice_index};
 ghost use Rattle.esa_floor.specs.Standing.{IsSpread, turns_made};
+ghost use Rattle.esa_spec.specs.Draws.{IsDrawn};
 ghost use Rattle.esa_spec.specs.Turns.{order};
 ghost use Rattle.esa_stash.specs.Stash.{queue_at};
 ghost use Rattle.esa_press.specs.Drained.{DrainEnd};
+ghost use Rattle.esa_press.specs.Stepped.{AreCounted};
 
 use crate::halt::Halt;
 use crate::press::Press;
@@ -27,6 +29,9 @@ impl Press {
         requires all { floor.old.counted.writes ≡ floor.old.plan.b * floor.old.plan.b }
         ensures ends { DrainEnd V.faults (G.draws attempt) (order floor.old.plan.b (turns_made floor.old)) attempt floor.old floor.new result }
         ensures noted { OnOk result ((i : ℕ) → i < floor.old.plan.b → slice_index self.new.tails i ≡ length (queue_at floor.old.stash i)) }
+
+        // A compression after it has its counts.
+        ensures counted { IsDrawn floor.old.plan (G.draws attempt) → OnOk result (AreCounted floor.old.plan (G.draws attempt) (turns_made floor.old) floor.old.counts self.new.tails) }
         ensures others { self.new ≡ record self.old { tails = self.new.tails } }
     {
         for target in 0..self.plan().b() {

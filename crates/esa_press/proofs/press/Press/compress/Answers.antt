@@ -24,6 +24,7 @@ loop-output-init g c =
       floor = refl;
       others = c.clear.ensures ∙ ap (λ (w : Pressed). record c.args.self.now { queue = w.queue; counts = w.counts }) (sym c.clear.ensures);
       ready = refl;
+      total = refl;
       used = omega arith;
       put = omega (arith, none, start);
       waits = omega (arith, none, start, empty);
@@ -89,6 +90,7 @@ loop-output-preserved g c =
       floor = c.put_out.ensures.floor ∙ ap (λ (x : Parts _). record x { recorder = new }) inv.floor;
       others = c.put_out.ensures.others ∙ ap (λ (w : Pressed). record w { queue = c.put_out.new.self.queue; counts = c.put_out.new.self.counts }) inv.others;
       ready = c.put_out.ensures.ready ∙ inv.ready;
+      total = c.put_out.ensures.total ∙ inv.total;
       used = omega (arith, c.put_out.ensures.used, inv.used, both, product, own);
       put = subst (λ (q : Sizes). first q (j + 1) ≤ reached q d c.min-end.result) (ap (λ (f : Parts _). f.plan) inv.floor) c.in_default.ensures.put;
       waits = c.in_default.ensures.waits ∙ ap (λ (q : Sizes). reached q d c.min-end.result - first q (j + 1)) (ap (λ (f : Parts _). f.plan) inv.floor);

@@ -14,6 +14,7 @@ invariant-loop-output g l = record {
   floor : l.floor ≡ record l.fn.floor { recorder = l.floor.recorder };
   others : l.self ≡ record l.fn.self { queue = l.self.queue; counts = l.self.counts };
   ready : l.floor.recorder.plan ≡ l.fn.floor.recorder.plan;
+  total : length l.floor.recorder.trace + l.floor.recorder.room ≡ length l.fn.floor.recorder.trace + l.fn.floor.recorder.room;
   used : l.fn.floor.recorder.room ≤ l.floor.recorder.room + (l.from * (l.fn.floor.plan.b + 1) + l.output);
   put : first l.fn.floor.plan l.output ≤ reached l.fn.floor.plan (g.G.Told.draws l.attempt) l.from;
   waits : length l.self.queue ≡ reached l.fn.floor.plan (g.G.Told.draws l.attempt) l.from - first l.fn.floor.plan l.output;

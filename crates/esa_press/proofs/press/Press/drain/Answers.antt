@@ -11,7 +11,7 @@ use Rattle.esa_stash.specs.Stash.{queue_at}
 use Rattle.esa_vault.specs.Placed.{IsSpelled}
 use Rattle.esa_press.specs.Drained.{AreDrained}
 use Rattle.esa_press.specs.Pressed.{Pressed}
-use Rattle.esa_press.proofs.Draining.{all_queued, all_waits, drain_ends, drained_more, drained_none, none_passes, none_left, noted_more}
+use Rattle.esa_press.proofs.Draining.{all_queued, all_waits, counted_then, drain_ends, drained_more, drained_none, none_passes, none_left, noted_more}
 use Rattle.esa_press.proofs.press.Press.drain.Goals as goal
 
 pub loop-target-init : goal.loop-target-init
@@ -93,3 +93,16 @@ returns-clause-ends g c =
     omega (arith, c.loop-target-test.false, end, c.loop-target.auto.target-end) in
     let all = subst (λ (n : ℕ). AreDrained g.V.Device.faults c.args.attempt n f c.loop-target.floor) last c.loop-target.invariant.drained in
     (none_passes (is_left f.plan d o) f.plan.b (λ x x_in. none_left f d o (all_waits f.plan d (turns_made f) f.stash f.counts f.counted c.requires.spread c.requires.all) f.plan.b x (omega arith) x_in all.few), all)
+
+pub returns-clause-counted : goal.returns-clause-counted
+returns-clause-counted g c = λ drawn.
+    let f = c.args.floor.now in
+    let d = g.G.Told.draws c.args.attempt in
+    let o = order f.plan.b (turns_made f) in
+    let last : c.loop-target.target ≡ f.plan.b =
+    let end = c.b-target-end.ensures.value ∙ ap (λ (q : Sizes). q.b) (c.plan.ensures ∙ c.requires.plan) in
+    omega (arith, c.loop-target-test.false, end, c.loop-target.auto.target-end) in
+    let all = subst (λ (n : ℕ). AreDrained g.V.Device.faults c.args.attempt n f c.loop-target.floor) last c.loop-target.invariant.drained in
+    counted_then f.plan d (turns_made f) f.stash f.counts f.counted c.loop-target.self.tails drawn c.requires.spread c.requires.all
+    (none_passes (is_left f.plan d o) f.plan.b (λ x x_in. none_left f d o (all_waits f.plan d (turns_made f) f.stash f.counts f.counted c.requires.spread c.requires.all) f.plan.b x (omega arith) x_in all.few))
+    (λ i i_in. c.loop-target.invariant.noted i (omega (arith, i_in, last)))

@@ -84,6 +84,7 @@ loop-target-init g c =
       floor = refl;
       others = refl;
       ready = refl;
+      total = refl;
       used = omega arith;
       waits = c.requires.waits;
       made = subst (λ (n : ℕ). AreMade {T = Unit {0}} g.V.Device.faults f.plan f.run d (order f.plan.b (turns_made f)) c.args.attempt (map (Import c.args.output) (range_with_len c.args.from n)) f.recorder f.recorder (Ok tt))
@@ -128,6 +129,7 @@ loop-target-preserved g c =
       floor = c.import_target.ensures.floor ∙ ap (λ (x : Parts _). record x { recorder = new }) inv.floor;
       others = c.import_target.ensures.others ∙ ap (λ (w : Pressed). record w { queue = c.import_target.new.self.queue; counts = c.import_target.new.self.counts }) inv.others;
       ready = c.import_target.ensures.ready ∙ inv.ready;
+      total = c.import_target.ensures.total ∙ inv.total;
       used = omega (arith, c.import_target.ensures.used, inv.used, same, one_more, product);
       waits = c.in_default.ensures.waits ∙ ap (λ (q : Sizes). reached q d (t + 1) - first q c.args.output) (ap (λ (f : Parts _). f.plan) inv.floor);
       made =

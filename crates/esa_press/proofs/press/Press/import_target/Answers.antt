@@ -13,7 +13,7 @@ use Rattle.esa_press.specs.Records.{imported_items}
 use Rattle.esa_press.specs.Stepped.{parts_counted}
 use Rattle.esa_press.proofs.Counting.{parts_few, tail_few}
 use Rattle.esa_press.proofs.Fetching.{on_ok}
-use Rattle.esa_press.proofs.Stepping.{import_keeps, import_logs, import_made, waits_few, waits_more}
+use Rattle.esa_press.proofs.Stepping.{import_keeps, import_logs, import_totals, import_made, waits_few, waits_more}
 use Rattle.esa_press.proofs.press.Press.import_target.Goals as goal
 
 pub import-requires-clause-all : goal.import-requires-clause-all
@@ -108,3 +108,8 @@ returns-clause-gives g c =
     → OnOk c.import.result (c.import.new.self.queue ≡ w.queue ++ held_in (imported_items f.plan chunks left) order)) run_is
     (subst (λ (p : Sizes). (chunks : ℕ → List Item) (left : List Item) → IsFaithful p c.import.new.recorder.log → AreStored p w.run c.args.attempt c.args.target c.recorder.result.now.log chunks left
     → OnOk c.import.result (c.import.new.self.queue ≡ w.queue ++ held_in (imported_items p chunks left) order)) plan_is c.import.ensures.gives)))
+
+pub returns-clause-total : goal.returns-clause-total
+returns-clause-total g c =
+    import_totals g.V.Device.faults c.count.new.self.plan c.count.new.self.run c.args.attempt c.args.target c.count.new.self.counts c.count.new.self.queue c.recorder.result.now c.import.new.recorder c.import.result c.import.ensures.answer
+    ∙ ap (λ (r : Recorded _). length r.trace + r.room) c.recorder.ensures.value

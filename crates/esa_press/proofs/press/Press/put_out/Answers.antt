@@ -1,4 +1,4 @@
-use Rattle.std.proofs.Common.{◌≡◌, ◌+◌, ◌-◌, ◌≤◌, ℕ, suc, [], ◌∷◌, ◌++◌, Err, map, ap, ◌∙◌, subst, arith}
+use Rattle.std.proofs.Common.{◌≡◌, ◌+◌, ◌-◌, ◌≤◌, ℕ, suc, [], ◌∷◌, ◌++◌, Err, map, ap, ◌∙◌, subst, arith, length}
 use Rattle.std.specs.List.{range_with_len}
 use Rattle.esa_compress.proofs.ImportLaws.{climbs}
 use Rattle.esa_floor.specs.Standing.{turns_made}
@@ -10,7 +10,7 @@ use Rattle.esa_envelope.specs.declared.keys.Keys.{Keys}
 use Rattle.esa_press.specs.Pressed.{Pressed, PutAnswer}
 use Rattle.esa_press.specs.Stepped.{AreMade}
 use Rattle.esa_press.proofs.Fetching.{on_ok}
-use Rattle.esa_press.proofs.Stepping.{made_bad, made_more, put_one, put_waits}
+use Rattle.esa_press.proofs.Stepping.{made_bad, made_more, put_one, put_totals, put_waits}
 use Rattle.esa_press.proofs.press.Press.put_out.Goals as goal
 
 pub put-requires-clause-bucket : goal.put-requires-clause-bucket
@@ -69,3 +69,10 @@ returns-clause-put g c =
     (subst (λ (q : Sizes). PutAnswer g.V.Device.told g.V.Device.faults g.V.Device.last_call q w.run c.args.attempt j w.queue c.put.new.self.queue c.recorder.result.now c.put.new.recorder c.put.result) plan_is c.put.ensures.answer)
     put c.in_default.ensures.waits)
     (λ both. both.0)
+
+pub returns-clause-total : goal.returns-clause-total
+returns-clause-total g c =
+    let w = c.import_ahead.new.self in
+    put_totals g.V.Device.told g.V.Device.faults g.V.Device.last_call w.plan w.run c.args.attempt c.args.output w.queue c.put.new.self.queue c.recorder.result.now c.put.new.recorder c.put.result c.put.ensures.answer
+    ∙ ap (λ (r : Recorded _). length r.trace + r.room) c.recorder.ensures.value
+    ∙ c.import_ahead.ensures.total
