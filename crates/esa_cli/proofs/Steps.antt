@@ -1,5 +1,5 @@
 -- What the steps of each command come to.
-use Rattle.std.proofs.Common.{◌≡◌, ℕ, Bool, true, false, List, Some, refl, sym, ap, ◌∙◌, arith}
+use Rattle.std.proofs.Common.{◌≡◌, ℕ, Bool, false, List, refl, sym, ap, ◌∙◌, arith}
 use Rattle.esa_lists.specs.Files.{Files}
 use Rattle.esa_job.specs.declared.command.Command.{Command}
 use Rattle.esa_job.specs.declared.command.Command.TheVariants as command
@@ -15,14 +15,14 @@ use Rattle.esa_command.specs.Work.{Work}
 use Rattle.esa_command.proofs.Composition.{judged_at_once}
 use Rattle.esa_command.proofs.Ending.{ends_stop}
 use Rattle.esa_encoding.specs.Encode.{whole_job, reports_file, encode_steps, encode_asked, encode_keyed, encoded_work}
-use Rattle.esa_encoding.specs.Generate.{generate_steps, generated_by}
-use Rattle.esa_shuffling.specs.Batch.{gather_steps, batch_steps, gathered_work}
+use Rattle.esa_encoding.specs.Generate.{generated_by}
+use Rattle.esa_shuffling.specs.Batch.{gather_steps, gathered_work}
 use Rattle.esa_shuffling.specs.Plan.{plan_steps, plan_asked, plan_turned, foretold}
 use Rattle.esa_shuffling.specs.Shuffle.{turns_file, coins_file}
 use Rattle.esa_analysing.specs.Analyse.{forward_file, analyse_steps, analyse_asked, analyse_keyed, analysed}
-use Rattle.esa_analysing.specs.Histogram.{histogram_steps, histogram_work}
+use Rattle.esa_analysing.specs.Histogram.{histogram_work}
 use Rattle.esa_analysing.specs.Loading.{load_steps}
-use Rattle.esa_analysing.specs.Upgrade.{upgrade_steps, upgrade_work}
+use Rattle.esa_analysing.specs.Upgrade.{upgrade_work}
 use Rattle.esa_cli.specs.Plain.{is_built, steps_of}
 
 -- ---- the work of each command is to end well

@@ -1,5 +1,5 @@
 -- What follows of how a call ended, whatever is told: its counts, and what a printer tells.
-use Rattle.std.proofs.Common.{◌≡◌, ◌⊎◌, inl, inr, ℕ, false, List, ◌++◌, flat_map, Option, Some, None, refl, sym, ap, subst, ◌∙◌}
+use Rattle.std.proofs.Common.{◌≡◌, ◌⊎◌, inl, inr, ℕ, false, List, flat_map, Option, Some, None, refl, sym, ap, subst, ◌∙◌}
 use Rattle.std.specs.Prelude.{IsSome, is_some}
 use Rattle.esa_lists.specs.Files.{Files}
 use Rattle.esa_job.specs.declared.command.Command.{Command}
@@ -17,7 +17,7 @@ use Rattle.esa_refusal.specs.declared.stop.Stop.{Stop}
 use Rattle.esa_refusal.specs.declared.stop.Stop.TheVariants.{Refused, Unread, OutOfMemory}
 use Rattle.esa_refusal.specs.Source.{role_of, role_of_sink}
 use Rattle.esa_refusal.specs.Status.{status_of, status_text}
-use Rattle.esa_command.specs.Ends.{Ends, Stops, Works}
+use Rattle.esa_command.specs.Ends.{Ends, Works}
 use Rattle.esa_command.specs.Judged.{IsMissing, StopsBy}
 use Rattle.esa_command.specs.Settled.{Went, whole, unwritten, unprinted, ending, Counts, Prints}
 use Rattle.esa_command.specs.Stand.{Stand}
