@@ -1,13 +1,12 @@
 -- Why a call ended as it did: of every cabinet that it isn't Usage, and of one that tells its files the cause.
 use Rattle.std.proofs.Common.{◌≡◌, ◌⊎◌, inl, inr, ℕ, false, List, Option, Some, None, refl, sym, ap, subst, ◌∙◌}
-use Rattle.std.specs.Prelude.{◌↔◌, Ok}
+use Rattle.std.specs.Prelude.{◌↔◌}
 use Rattle.esa_lists.specs.Files.{Files}
 use Rattle.esa_job.specs.declared.command.Command.{Command}
 use Rattle.esa_outside.specs.Cause.{Rose}
 use Rattle.esa_refusal.specs.declared.status.End.{End}
 use Rattle.esa_refusal.specs.declared.status.Status.{Status}
 use Rattle.esa_refusal.specs.declared.status.Status.TheVariants as status
-use Rattle.esa_refusal.specs.declared.source.Sink.{Sink}
 use Rattle.esa_refusal.specs.declared.source.Sink.TheVariants as sink
 use Rattle.esa_refusal.specs.declared.source.Source.{Source}
 use Rattle.esa_refusal.specs.declared.source.Source.TheVariants as source
