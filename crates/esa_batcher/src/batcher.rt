@@ -57,12 +57,7 @@ fn text_of(line: &[u8]) -> Result<&[u8], LineCause>
 
 /// Writes the envelope of a submission line to `out`, or answers the line's first cause. The line's number is counted
 /// from 1. It takes no memory.
-pub fn envelope_of(
-    form: Form,
-    line: &[u8],
-    number: u64,
-    out: &mut [u8],
-) -> Result<(), LineRefused>
+pub fn envelope_of(form: Form, line: &[u8], number: u64, out: &mut [u8]) -> Result<(), LineRefused>
     requires { length out.old ≡ envelope_length form }
     ensures envelope { OnOk result (envelope_in form line.now ≡ Ok out.new) }
     ensures refused { IfErr result (λ refused. envelope_in form line.now ≡ Err refused.cause) }
