@@ -1,7 +1,6 @@
 use Rattle.std.proofs.Common.{◌≡◌, ap, sym, subst, refl, arith}
 use Rattle.std.specs.Prelude.{unwrap_or, []}
 use Rattle.esa_job.specs.Seen.{request_of}
-use Rattle.esa_job.specs.declared.command.Command.TheVariants.{Batch}
 use Rattle.esa_job.specs.declared.field.JobField.TheVariants as field
 use Rattle.esa_command.specs.Settled.{Settles}
 use Rattle.esa_command.specs.Stand.{stand}

@@ -1,4 +1,4 @@
-use Rattle.std.proofs.Common.{◌≡◌, Ok, refl, ap, sym, subst, ◌∙◌, arith}
+use Rattle.std.proofs.Common.{◌≡◌, ap, sym, subst, ◌∙◌, arith}
 use Rattle.std.specs.Prelude.{unwrap_or, []}
 use Rattle.std.proofs.lemmas.Result.{err_from_is_err_and}
 use Rattle.esa_job.specs.Seen.{request_of}

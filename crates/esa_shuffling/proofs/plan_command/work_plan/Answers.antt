@@ -1,4 +1,4 @@
-use Rattle.std.proofs.Common.{◌≡◌, ◌⊎◌, ◌∷◌, [], Some, refl, ap, sym, subst}
+use Rattle.std.proofs.Common.{◌≡◌, ◌∷◌, [], Some, refl, ap, sym, subst}
 use Rattle.std.specs.Prelude.{option_map}
 use Rattle.esa_spec.specs.Files.{trace_bytes}
 use Rattle.esa_refusal.specs.declared.source.Sink.TheVariants.{Trace}
@@ -8,7 +8,7 @@ use Rattle.esa_refusal.specs.declared.status.Status.TheVariants as status
 use Rattle.esa_command.specs.Doing.{WritesIt, AreWritten, AreBroken}
 use Rattle.esa_command.specs.Settled.{Settles}
 use Rattle.esa_command.specs.Stand.{stand}
-use Rattle.esa_command.specs.Work.{Write, Work}
+use Rattle.esa_command.specs.Work.{Write}
 use Rattle.esa_command.proofs.Settling.{writes_it, settled_unwritten}
 use Rattle.esa_shuffling.specs.Plan.{forecast_work}
 use Rattle.esa_shuffling.proofs.plan_command.work_plan.Goals as goal

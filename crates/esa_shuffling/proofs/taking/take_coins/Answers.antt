@@ -1,9 +1,8 @@
-use Rattle.std.proofs.Common.{◌≡◌, ◌⊎◌, inl, inr, ⊎_elim, Some, None, Ok, Err, refl, ap, sym, subst, ◌∙◌, arith}
+use Rattle.std.proofs.Common.{◌≡◌, ◌⊎◌, inl, inr, ⊎_elim, Some, None, Ok, Err, ap, sym, subst, ◌∙◌, arith}
 use Rattle.std.specs.Prelude.{option_map}
 use Rattle.std.proofs.lemmas.Result.{err_from_is_err_and}
 use Rattle.esa_coins.specs.Table.{tables_in}
 use Rattle.esa_coins.specs.TableCoins.{tables_of}
-use Rattle.esa_coins.specs.declared.any.AnyCoins.{AnyCoins}
 use Rattle.esa_coins.specs.declared.any.AnyCoins.TheVariants.{Seeded, Table}
 use Rattle.esa_coins.specs.declared.refused.CoinsRefused.TheVariants.{OutOfMemory}
 use Rattle.esa_job.specs.Seen.{request_of}
