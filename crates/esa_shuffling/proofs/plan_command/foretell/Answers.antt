@@ -2,7 +2,6 @@ use Rattle.std.proofs.Common.{◌≡◌, ◌∙◌, ◌<◌, ◌^◌, length, sy
 use Rattle.std.specs.Prelude.{All, option_map}
 use Rattle.esa_params.specs.Sizes.{ArePlanned}
 use Rattle.esa_spec.specs.Traces.{trace}
-use Rattle.esa_job.specs.declared.field.JobField.TheVariants as field
 use Rattle.esa_job.specs.Seen.{request_of}
 use Rattle.esa_model.specs.Forecast.{made, verdicts}
 use Rattle.esa_model.specs.Turns.{AreWorkers}
