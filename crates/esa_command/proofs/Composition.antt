@@ -1,5 +1,5 @@
 -- Steps that are taken one after another.
-use Rattle.std.proofs.Common.{◌≡◌, ◌⊎◌, inl, inr, ℕ, ◌+◌, ◌≤◌, ◌<◌, List, [], ◌∷◌, ◌++◌, Option, Some, None, Result, Ok, Err, refl, sym, ap, subst, ◌∙◌, append_assoc, append-nil, arith, true, false, ◌==◌}
+use Rattle.std.proofs.Common.{◌≡◌, ◌⊎◌, inl, inr, ℕ, ◌+◌, ◌≤◌, List, [], ◌∷◌, ◌++◌, Result, Ok, Err, refl, sym, ap, subst, ◌∙◌, append_assoc, append-nil, arith, true, false}
 use Rattle.esa_lists.specs.Files.{Files}
 use Rattle.esa_outside.specs.Cause.{Rose}
 use Rattle.esa_refusal.specs.declared.source.Source.{Source}
@@ -8,10 +8,10 @@ use Rattle.esa_refusal.specs.declared.stop.Stop.{Stop}
 use Rattle.esa_refusal.specs.declared.stop.Stop.TheVariants.{Refused, Unread, OutOfMemory}
 use Rattle.esa_refusal.specs.Refusal.{IsOfInput}
 use Rattle.esa_refusal.specs.Source.{place_of, is_same_source}
-use Rattle.esa_command.specs.Given.{Gave, Given, heard_of, all_heard, Agrees, AllAgree, AreInOrder}
+use Rattle.esa_command.specs.Given.{Given, heard_of, all_heard, Agrees, AllAgree, AreInOrder}
 use Rattle.esa_command.specs.Judged.{IsMissing, StopsBy, AnswersBy, Judged}
 use Rattle.esa_command.specs.Stand.{Stand}
-use Rattle.esa_command.specs.Step.{Step, ◌>>=◌, accepted, refused, missing, Reads, reads_of, without, file}
+use Rattle.esa_command.specs.Step.{Step, ◌>>=◌, accepted, refused, Reads, reads_of, without, file}
 use Rattle.esa_job.specs.declared.command.Command.{Command}
 
 heard-append : (some more : List Given) → all_heard (some ++ more) ≡ all_heard some ++ all_heard more

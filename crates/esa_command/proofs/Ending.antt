@@ -1,5 +1,5 @@
 -- How a command ends, by what its taking in and its work answered.
-use Rattle.std.proofs.Common.{◌≡◌, inl, inr, List, ℕ, Ok, Err, refl, ap, ◌∙◌}
+use Rattle.std.proofs.Common.{◌≡◌, inl, inr, List, ℕ, Ok, Err, refl, ap}
 use Rattle.esa_lists.specs.Files.{Files}
 use Rattle.esa_refusal.specs.declared.status.End.{End}
 use Rattle.esa_refusal.specs.declared.status.End.TheVariants.{Stopped}

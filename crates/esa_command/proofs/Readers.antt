@@ -1,5 +1,5 @@
 -- What is read of the bytes of a file.
-use Rattle.std.proofs.Common.{◌≡◌, ◌⊎◌, inl, inr, ℕ, List, Result, Ok, Err, refl, ap, ◌∙◌}
+use Rattle.std.proofs.Common.{◌≡◌, ◌⊎◌, inl, inr, ℕ, Result, Ok, Err, ap, ◌∙◌}
 use Rattle.esa_lists.specs.Files.{Files}
 use Rattle.esa_refusal.specs.declared.refusal.Refusal.{Refusal}
 use Rattle.esa_refusal.specs.declared.stop.Stop.{Stop}

@@ -1,10 +1,10 @@
 -- Files are written and lines are printed.
-use Rattle.std.proofs.Common.{◌≡◌, ◌⊎◌, inl, inr, ℕ, List, [], ◌∷◌, ◌++◌, Option, Some, None, Result, Ok, Err, refl, sym, ap, subst, ◌∙◌, append-nil, arith}
+use Rattle.std.proofs.Common.{◌≡◌, ◌⊎◌, inl, inr, ℕ, List, [], ◌∷◌, ◌++◌, Some, None, Result, Ok, Err, refl, sym, ap, subst, ◌∙◌, append-nil, arith}
 use Rattle.std.specs.Prelude.{OnOk, OnErr}
 use Rattle.std.specs.FinMap as map
 use Rattle.esa_lists.specs.Files.{Files}
-use Rattle.esa_outside.specs.Cause.{Rose, HasCause}
-use Rattle.esa_outside.specs.Heard.{Event, printed, after}
+use Rattle.esa_outside.specs.Cause.{HasCause}
+use Rattle.esa_outside.specs.Heard.{printed, after}
 use Rattle.esa_outside.specs.Told.{HoldsFront, AddsFront, line_of}
 use Rattle.esa_outside.specs.declared.Role.TheVariants as role
 use Rattle.esa_page.specs.Underway.{IsWhole, IsLeft}

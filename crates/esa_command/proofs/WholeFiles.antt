@@ -1,14 +1,14 @@
 -- What reading a file whole says of the step that reads it.
-use Rattle.std.proofs.Common.{◌≡◌, ◌⊎◌, inl, inr, ℕ, ◌+◌, ◌≤◌, ◌<◌, Bool, true, false, cond, List, [], ◌∷◌, ◌++◌, length, Option, Some, None, Result, Ok, Err, refl, sym, ap, subst, ◌∙◌, append-nil, arith}
-use Rattle.std.specs.Prelude.{nat_lt, IsSomeAnd}
+use Rattle.std.proofs.Common.{◌≡◌, ◌⊎◌, inl, inr, ℕ, ◌+◌, ◌≤◌, ◌<◌, true, false, cond, List, [], ◌∷◌, ◌++◌, length, Option, Some, None, Result, Ok, Err, refl, sym, ap, ◌∙◌, append-nil, arith}
+use Rattle.std.specs.Prelude.{nat_lt}
 use Rattle.std.specs.Option.{option_map}
 use Rattle.std.specs.FinMap as map
 use Rattle.esa_lists.specs.Files.{Files}
 use Rattle.esa_job.specs.declared.command.Command.{Command}
 use Rattle.esa_outside.specs.Cause.{Rose}
-use Rattle.esa_outside.specs.Heard.{Event, length_of, part_of}
+use Rattle.esa_outside.specs.Heard.{length_of, part_of}
 use Rattle.esa_outside.specs.Told.{Lacks, EndsBefore}
-use Rattle.esa_outside.specs.Whole.{HasHeard, Counted, Refuses}
+use Rattle.esa_outside.specs.Whole.{HasHeard}
 use Rattle.esa_outside.specs.declared.whole.ReadRefused.TheVariants as read_refused
 use Rattle.esa_refusal.specs.declared.refusal.Refusal.TheVariants.{Large}
 use Rattle.esa_refusal.specs.declared.source.Source.{Source}
@@ -16,10 +16,10 @@ use Rattle.esa_refusal.specs.declared.source.Source.TheVariants as source
 use Rattle.esa_refusal.specs.declared.stop.Stop.{Stop}
 use Rattle.esa_refusal.specs.declared.stop.Stop.TheVariants.{Refused, Unread, OutOfMemory}
 use Rattle.esa_refusal.specs.Source.{role_of, limit_of, place_of, is_same_source}
-use Rattle.esa_command.specs.Given.{Gave, Given, whole, long, begun, nothing, heard_of, all_heard, Agrees, AllAgree, AreInOrder}
-use Rattle.esa_command.specs.Judged.{IsMissing, StopsBy, AnswersBy, Judged}
+use Rattle.esa_command.specs.Given.{Gave, Given, whole, long, begun, nothing, heard_of, Agrees, AreInOrder}
+use Rattle.esa_command.specs.Judged.{IsMissing, AnswersBy, Judged}
 use Rattle.esa_command.specs.Stand.{Stand}
-use Rattle.esa_command.specs.Step.{Step, accepted, refused, missing, Reads, reads_of, without, within, file}
+use Rattle.esa_command.specs.Step.{accepted, refused, missing, Reads, without, within, file}
 
 pub is_same : (s : Source) → is_same_source s s ≡ true
 is_same source.Job = refl

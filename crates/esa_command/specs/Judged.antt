@@ -2,7 +2,6 @@
 use Rattle.std.specs.Prelude.{◌≡◌, ◌⊎◌, ℕ, ◌≤◌, ◌<◌, List, ◌++◌, Option, Some, Result, Ok, Err}
 use Rattle.esa_lists.specs.Files.{Files}
 use Rattle.esa_outside.specs.Cause.{Rose}
-use Rattle.esa_outside.specs.Heard.{Event}
 use Rattle.esa_refusal.specs.declared.source.Source.{Source}
 use Rattle.esa_refusal.specs.declared.stop.Stop.{Stop}
 use Rattle.esa_refusal.specs.declared.stop.Stop.TheVariants.{Refused, Unread, OutOfMemory}

@@ -1,5 +1,5 @@
 -- The line that a status is owed once a command has stopped.
-use Rattle.std.specs.Prelude.{◌≡◌, ◌⊎◌, ℕ, List, [], ◌∷◌, ◌++◌, Option, Some, None}
+use Rattle.std.specs.Prelude.{◌≡◌, ◌⊎◌, ℕ, List, [], ◌∷◌, ◌++◌, Some, None}
 use Rattle.esa_outside.specs.Cause.{Rose}
 use Rattle.esa_outside.specs.Heard.{printed}
 use Rattle.esa_outside.specs.Told.{AddsFront, line_of}

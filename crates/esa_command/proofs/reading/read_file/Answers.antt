@@ -1,5 +1,4 @@
-use Rattle.std.proofs.Common.{Err, ◌≡◌, ◌≤◌, ◌<◌, length, arith, sym, ap, ◌∙◌, refl, subst}
-use Rattle.esa_refusal.specs.Source.{limit_of, place_of}
+use Rattle.std.proofs.Common.{Err, arith, ap}
 use Rattle.esa_command.specs.Stand.{stand}
 use Rattle.esa_command.proofs.WholeFiles.{read_ok, read_long, read_failed, read_starved}
 use Rattle.esa_command.proofs.reading.read_file.Goals as goal

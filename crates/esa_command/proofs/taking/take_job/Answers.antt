@@ -1,5 +1,4 @@
 use Rattle.std.proofs.Common.{◌≡◌, ◌⊎◌, Err, refl, ap, sym, subst, ◌∙◌, arith}
-use Rattle.std.specs.Prelude.{unwrap_or, []}
 use Rattle.std.proofs.lemmas.Result.{err_from_is_err_and}
 use Rattle.esa_job.specs.Refusal.{job_of}
 use Rattle.esa_job.specs.Seen.{request_of}
@@ -10,7 +9,7 @@ use Rattle.esa_command.specs.Taking.{job_file}
 use Rattle.esa_refusal.specs.declared.source.Source.TheVariants as source
 use Rattle.esa_command.specs.Stand.{stand}
 use Rattle.esa_command.specs.Step.{file}
-use Rattle.esa_command.specs.Taking.{read_step, name_of}
+use Rattle.esa_command.specs.Taking.{read_step}
 use Rattle.esa_command.proofs.Composition.{judged_stop}
 use Rattle.esa_command.proofs.Readers.{judged_read, judged_unread}
 use Rattle.esa_command.proofs.taking.take_job.Goals as goal
