@@ -1,5 +1,6 @@
 pub mod Acts
 pub mod Exchanges
+pub mod Logging
 pub mod Marks
 pub mod Parts
 pub mod Private

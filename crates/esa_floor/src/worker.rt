@@ -11,6 +11,7 @@ ghost use Rattle.esa_vault.specs.Seals.{opens};
 ghost use Rattle.esa_vault.specs.Traffic.{IsOpenedTo, IsRead, IsWritten};
 ghost use Rattle.esa_floor.specs.Exchanges.{AreOf};
 ghost use Rattle.esa_floor.specs.Parts.{count_at};
+ghost use Rattle.esa_floor.specs.Private.{sealed_chunk};
 ghost use Rattle.esa_floor.specs.Workers.{IsInRound};
 ghost use Rattle.esa_floor.specs.Working.{AreDrawn, AreOpened, IsBegun, IsReady, Prepares, attempt_in, begun_with, block_for, handed_by, passed};
 
@@ -255,6 +256,7 @@ impl<'c, C: Coins> Worker<'c, C> {
         requires ready { recorder.old.plan ≡ Some self.old.buffers.plan }
         requires room { 0 < recorder.old.room }
         ensures written { IsWritten V.told V.faults V.last_call self.old.buffers.plan (chunk_slot self.old.buffers.plan self.old.bucket (self.old.phase - 3)) (attempt_in self.old.attempt) (block_for self.old.buffers (self.old.phase - 3)) recorder.old recorder.new result }
+        ensures sealed { block_for self.old.buffers (self.old.phase - 3) ≡ sealed_chunk self.old.buffers.plan self.old.run self.old.bucket (attempt_in self.old.attempt) self.old.buffers.chunks (self.old.phase - 3) }
         ensures passed { OnOk result (self.new ≡ passed self.old) }
         ensures failed { OnErr result (self.new ≡ self.old) }
     {

@@ -5,6 +5,7 @@ use Rattle.esa_params.specs.Sizes.{Sizes}
 use Rattle.esa_spec.specs.Traces.{asked}
 use Rattle.esa_spec.specs.declared.event.Event.{Event}
 use Rattle.esa_spec.specs.declared.event.Event.TheVariants.{Write}
+use Rattle.esa_floor.specs.Logging.{noted_of}
 use Rattle.esa_floor.specs.Parts.{Parts}
 use Rattle.esa_floor.specs.Standing.{attempt_begun, turns_made}
 use Rattle.esa_floor.specs.Workers.{IsInRound}
@@ -68,5 +69,40 @@ returns-clause-access g c =
     let phase = c.requires.phase in
     c.write.ensures.access
     ∙ ap (λ (e : Event). f.recorder.trace ++ option_to_list (asked f.plan (attempt_begun f) e))
+    (sym (next_writes f.plan.b (turns_made f) w.number w.bucket c.requires.held c.requires.bucket (omega (arith, phase, is, first, second, later))
+    ∙ ap (λ (x : ℕ). Write w.bucket (x - 3)) phase))
+
+pub returns-then-phase-eq1-clause-log : goal.returns-then-phase-eq1-clause-log
+returns-then-phase-eq1-clause-log g c =
+    let f = c.args.self.now in
+    let w = c.args.worker.now in
+    let new = c.read.new.self in
+    let first = c.requires.phase ∙ sym c.phase-phase.ensures ∙ c.if-phase-eq1.true in
+    c.read.ensures.log
+    ∙ ap (λ (e : Event). f.recorder.log ++ noted_of f.plan w.run (attempt_begun f) e new.stop new.recorder.last w.buffers.chunks)
+    (sym (next_reads f.plan.b (turns_made f) w.number w.bucket c.requires.held c.requires.bucket first))
+
+pub returns-then-phase-eq2-clause-log : goal.returns-then-phase-eq2-clause-log
+returns-then-phase-eq2-clause-log g c =
+    let f = c.args.self.now in
+    let w = c.args.worker.now in
+    let new = c.exchange.new.self in
+    let second = c.requires.phase ∙ sym c.phase-phase.ensures ∙ c.if-phase-eq2.true in
+    ap (λ (x : Parts _). x.recorder.log) c.exchange.ensures.floor ∙ sym (append-nil f.recorder.log)
+    ∙ ap (λ (e : Event). f.recorder.log ++ noted_of f.plan w.run (attempt_begun f) e new.stop new.recorder.last w.buffers.chunks)
+    (sym (next_exchanges f.plan.b (turns_made f) w.number w.bucket c.requires.held c.requires.bucket second))
+
+pub returns-clause-log : goal.returns-clause-log
+returns-clause-log g c =
+    let f = c.args.self.now in
+    let w = c.args.worker.now in
+    let new = c.write.new.self in
+    let is = c.phase-phase.ensures in
+    let first = c.if-phase-eq1.false in
+    let second = c.if-phase-eq2.false in
+    let later = c.requires.later in
+    let phase = c.requires.phase in
+    c.write.ensures.log
+    ∙ ap (λ (e : Event). f.recorder.log ++ noted_of f.plan w.run (attempt_begun f) e new.stop new.recorder.last w.buffers.chunks)
     (sym (next_writes f.plan.b (turns_made f) w.number w.bucket c.requires.held c.requires.bucket (omega (arith, phase, is, first, second, later))
     ∙ ap (λ (x : ℕ). Write w.bucket (x - 3)) phase))
