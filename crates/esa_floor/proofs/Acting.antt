@@ -1,11 +1,9 @@
 -- What the next turn of a worker does, by its phase and by its bucket.
-use Rattle.std.proofs.Common.{◌≡◌, ◌≢◌, ℕ, ◌-◌, ◌<◌, ◌≤◌, true, false, Bool, List, None, ap, inl, inr, ◌∙◌, arith}
+use Rattle.std.proofs.Common.{◌≡◌, ◌≢◌, ℕ, ◌-◌, ◌<◌, ◌≤◌, true, false, Bool, List, ap, inl, inr, ◌∙◌, subst, sym, arith}
 use Rattle.std.specs.Prelude.{◌==◌, nat_lt, if◌then◌else◌}
 use Rattle.std.proofs.lemmas.Bool.{cases_lt}
 use Rattle.std.proofs.lemmas.Bool.Decides.{nat_tests}
 use Rattle.esa_laws.proofs.TurnLaws.{next-is}
-use Rattle.esa_params.specs.Sizes.{Sizes}
-use Rattle.esa_spec.specs.Traces.{asked}
 use Rattle.esa_spec.specs.Turns.{acted, claims, event_of, held, next, next_phase}
 use Rattle.esa_spec.specs.declared.event.Event.{Event}
 use Rattle.esa_spec.specs.declared.event.Event.TheVariants.{Claim, Read, Exchange, Write, Done, Idle}
@@ -30,11 +28,11 @@ module _ (b : ℕ) (h : List ℕ) (w : ℕ) where
       next-is b h w ∙ ap (λ (x : ℕ). acted b (claims b h) x (held b h w)) first
       ∙ ap (λ (t : Bool). if t then Claim (claims b h) else Done) (past (claims b h) b none)
 
-  -- the first turn of a round makes no access
-  pub quiet_first : (p : Sizes) (a : ℕ) → next_phase b h w ≡ 0 → asked p a (next b h w) ≡ None
-  quiet_first p a first = elim (cases_lt (claims b h) b) [
-    | inl some ↦ ap (asked p a) (next_claims first some)
-    | inr none ↦ ap (asked p a) (next_is_done first none)
+  -- the first turn of a round takes a bucket, or none is left
+  pub at_first : (P : Event → Type 0) → ((j : ℕ) → P (Claim j)) → P Done → next_phase b h w ≡ 0 → P (next b h w)
+  at_first P taken none first = elim (cases_lt (claims b h) b) [
+    | inl some ↦ subst P (sym (next_claims first some)) (taken (claims b h))
+    | inr over ↦ subst P (sym (next_is_done first over)) none
   ]
 
   later : next_phase b h w ≢ 0 → next b h w ≡ event_of b (held b h w) (next_phase b h w)

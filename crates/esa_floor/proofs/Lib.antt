@@ -4,8 +4,10 @@ mod Dealing
 mod Exchanging
 mod Fitting
 mod Holding
+mod Keeping
 mod Making
 mod Opening
+mod Queueing
 pub mod Resting
 mod Rounding
 mod Sealing

@@ -31,11 +31,11 @@ abbrev There : Option Stop → Type 0
 There None = ⊥
 There (Some s) = Unit {0}
 
-none_or_some : (s : Stop) → Some s ≢ None
+pub none_or_some : (s : Stop) → Some s ≢ None
 none_or_some s never = subst There never tt
 
 -- where a stop stays and there is none now, there was none
-ran : (s now : Option Stop) → (s ≢ None → now ≡ s) → now ≡ None → s ≡ None
+pub ran : (s now : Option Stop) → (s ≢ None → now ≡ s) → now ≡ None → s ≡ None
 ran None now stays runs = refl
 ran (Some s) now stays runs = sym (stays (none_or_some s)) ∙ runs
 
@@ -110,7 +110,7 @@ module _ {V : Type 0} (faults : V → ℕ) (ds : ℕ → Draw) (f : Parts V) whe
     begun_on g same longer =
         ap (λ (p : Sizes). begun p.workers g.history) same ∙ ap (begun f.plan.workers) longer ∙ begun_is
 
-    turns_are : (g : Parts V) → g.plan ≡ f.plan → g.history ≡ f.history ++ w ∷ [] → turns_made g ≡ turns_made f ++ w ∷ []
+    pub turns_are : (g : Parts V) → g.plan ≡ f.plan → g.history ≡ f.history ++ w ∷ [] → turns_made g ≡ turns_made f ++ w ∷ []
     turns_are g same longer =
         ap (λ (p : Sizes). latest p.workers g.history) same ∙ ap (latest f.plan.workers) longer ∙ latest-worker f.plan.workers f.history w worker
 

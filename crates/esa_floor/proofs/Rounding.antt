@@ -27,7 +27,7 @@ are_blocks Chunks never exchanged = absurd never
 are_blocks Blocks ready exchanged = refl
 
 -- the phase after a write is no phase before one
-no_second : (x m : ℕ) → 3 ≤ x → x < m → (x + 1) % m ≢ 2
+pub no_second : (x m : ℕ) → 3 ≤ x → x < m → (x + 1) % m ≢ 2
 no_second x m least most second = elim (cases_lt (x + 1) m) [
   | inl within ↦ let same = mod-eq_of_lt within in absurd (omega (arith, same, second, least))
   | inr past ↦

@@ -25,10 +25,10 @@ use Rattle.esa_floor.specs.Standing.{IsSpread}
 use Rattle.esa_floor.proofs.Dealing.{queues_after}
 use Rattle.esa_floor.proofs.Exchanging.{count_is, total_is, waits_after}
 
-order-same : (b : ℕ) (h : List ℕ) (w : ℕ) → exchanged (next b h w) ≡ None → order b (h ++ w ∷ []) ≡ order b h
+pub order-same : (b : ℕ) (h : List ℕ) (w : ℕ) → exchanged (next b h w) ≡ None → order b (h ++ w ∷ []) ≡ order b h
 order-same b h w none = order-push b h w ∙ ap (λ e. order b h ++ option_to_list e) none ∙ append-nil (order b h)
 
-order-more : (b : ℕ) (h : List ℕ) (w j : ℕ) → exchanged (next b h w) ≡ Some j → order b (h ++ w ∷ []) ≡ order b h ++ j ∷ []
+pub order-more : (b : ℕ) (h : List ℕ) (w j : ℕ) → exchanged (next b h w) ≡ Some j → order b (h ++ w ∷ []) ≡ order b h ++ j ∷ []
 order-more b h w j one = order-push b h w ∙ ap (λ e. order b h ++ option_to_list e) one
 
 -- a turn that exchanges nothing

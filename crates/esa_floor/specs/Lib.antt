@@ -1,5 +1,7 @@
 pub mod Acts
 pub mod Exchanges
+pub mod Keeping
+pub mod Logging
 pub mod Marks
 pub mod Parts
 pub mod Private

@@ -9,6 +9,8 @@ ghost use Rattle.esa_vault.specs.Placed.{IsSpelled};
 ghost use Rattle.esa_vault.specs.Seals.{opens};
 ghost use Rattle.esa_floor.specs.Acts.{StopsExchanging, StopsReading, StopsWriting, answered, one_more};
 ghost use Rattle.esa_floor.specs.Exchanges.{AreOf};
+ghost use Rattle.esa_floor.specs.Keeping.{OpensTo};
+ghost use Rattle.esa_floor.specs.Logging.{read_of, write_of};
 ghost use Rattle.esa_floor.specs.Workers.{moved};
 ghost use Rattle.esa_floor.specs.Working.{AreDrawn, AreOpened, IsBegun, attempt_in, handed_by, passed};
 
@@ -30,6 +32,8 @@ pub(crate) fn read<V: Device, C: Coins>(
     requires ready { recorder.old.plan ≡ Some worker.old.buffers.plan }
     requires room { 0 < recorder.old.room }
     ensures trace { recorder.new.trace ≡ recorder.old.trace ++ access_of worker.old.buffers.plan (attempt_in worker.old.attempt) Op.Read (at Region.Input worker.old.bucket) ∷ [] }
+    ensures log { recorder.new.log ≡ recorder.old.log ++ read_of worker.old.buffers.plan (attempt_in worker.old.attempt) worker.old.bucket result recorder.new.last ∷ [] }
+    ensures opened { result ≡ None → OpensTo worker.old.buffers.plan worker.old.run (attempt_in worker.old.attempt) worker.old.bucket worker.new.buffers.text recorder.old recorder.new }
     ensures room { recorder.old.room ≡ recorder.new.room + 1 }
     ensures ready { recorder.new.plan ≡ recorder.old.plan }
     ensures stops { StopsReading (number_of worker.old.buffers.plan (at Region.Input worker.old.bucket)) (opens worker.old.buffers.plan worker.old.run (at Region.Input worker.old.bucket) (attempt_in worker.old.attempt) 0 recorder.new.last) (V.faults recorder.old.device) (V.faults recorder.new.device) result }
@@ -77,6 +81,7 @@ pub(crate) fn write<V: Device, C: Coins>(
     requires ready { recorder.old.plan ≡ Some worker.old.buffers.plan }
     requires room { 0 < recorder.old.room }
     ensures trace { recorder.new.trace ≡ recorder.old.trace ++ access_of worker.old.buffers.plan (attempt_in worker.old.attempt) Op.Write (chunk_slot worker.old.buffers.plan worker.old.bucket (worker.old.phase - 3)) ∷ [] }
+    ensures log { recorder.new.log ≡ recorder.old.log ++ write_of worker.old.buffers.plan worker.old.run (attempt_in worker.old.attempt) worker.old.bucket (worker.old.phase - 3) result worker.old.buffers.chunks ∷ [] }
     ensures room { recorder.old.room ≡ recorder.new.room + 1 }
     ensures ready { recorder.new.plan ≡ recorder.old.plan }
     ensures last { recorder.new.last ≡ recorder.old.last }

@@ -10,6 +10,7 @@ ghost use Rattle.esa_stash.specs.Stash.{chunks as chunks_of, count, exchanged, t
 ghost use Rattle.esa_vault.specs.Placed.{IsSpelled};
 ghost use Rattle.esa_vault.specs.Seals.{opens};
 ghost use Rattle.esa_vault.specs.Traffic.{IsOpenedTo, IsRead, IsWritten};
+ghost use Rattle.esa_floor.specs.Keeping.{OpensTo};
 ghost use Rattle.esa_floor.specs.Exchanges.{AreOf};
 ghost use Rattle.esa_floor.specs.Parts.{count_at};
 ghost use Rattle.esa_floor.specs.Private.{AreSealed, blocks_in, item_opened};
@@ -138,6 +139,7 @@ impl Buffers {
         requires room { 0 < recorder.old.room }
         ensures read { IsRead V.told V.faults V.last_call self.old.plan (at Region.Input bucket) attempt (opens self.old.plan keys.now (at Region.Input bucket) attempt 0) (take (block_length self.old.plan (at Region.Input bucket)) self.new.sealed) recorder.old recorder.new result }
         ensures opened { IsOpenedTo self.old.plan keys.now (at Region.Input bucket) attempt (take (block_length self.old.plan (at Region.Input bucket)) self.new.sealed) (take (plain_length self.old.plan Region.Input bucket) self.old.text) (take (plain_length self.old.plan Region.Input bucket) self.new.text) result }
+        ensures opens { OnOk result (OpensTo self.old.plan keys.now attempt bucket self.new.text recorder.old recorder.new) }
         ensures kept { self.new ≡ record self.old { text = self.new.text; sealed = self.new.sealed } }
     {
         let size = self.plan.size(bucket) as usize * self.plan.form().envelope() as usize;

@@ -8,6 +8,8 @@ ghost use Rattle.esa_spec.specs.Traces.{asked, chunk_slot};
 ghost use Rattle.esa_spec.specs.Turns.{held, next, next_phase};
 ghost use Rattle.esa_stash.specs.Stash.{empty_stash, padded, queue_at, without};
 ghost use Rattle.esa_floor.specs.Acts.{answer_in, answer_of, counted_after};
+ghost use Rattle.esa_floor.specs.Keeping.{Deals, HoldsRecords, IsDealt, OpensTo, QueuesHold};
+ghost use Rattle.esa_floor.specs.Logging.{noted_of, read_of, write_of};
 ghost use Rattle.esa_floor.specs.Marks.{mark_of, roots_of};
 ghost use Rattle.esa_floor.specs.Workers.{IsInRound, IsOfFloor, WorkerStands, moved};
 ghost use Rattle.esa_floor.specs.Working.{IsReady, Working, passed};
@@ -376,6 +378,8 @@ impl<V: Device, G: Told> Floor<V, G> {
         ensures ready { self.new.recorder.plan ≡ self.old.recorder.plan }
         ensures trace { length self.new.recorder.trace ≡ length self.old.recorder.trace + 1 }
         ensures access { self.new.recorder.trace ≡ self.old.recorder.trace ++ access_of self.old.plan (attempt_begun self.old) Op.Read (at Region.Input worker.old.bucket) ∷ [] }
+        ensures log { self.new.recorder.log ≡ self.old.recorder.log ++ read_of self.old.plan (attempt_begun self.old) worker.old.bucket self.new.stop self.new.recorder.last ∷ [] }
+        ensures opened { self.new.stop ≡ None → OpensTo self.old.plan self.old.run (attempt_begun self.old) worker.old.bucket worker.new.buffers.text self.old.recorder self.new.recorder }
         ensures worker { self.new.stop ≡ None → worker.new ≡ record worker.old { phase = 2; stage = Stage.Envelopes; buffers = record worker.old.buffers { text = worker.new.buffers.text; sealed = worker.new.buffers.sealed } } }
         ensures kept { worker.new ≡ moved worker.old worker.new }
     {
@@ -399,6 +403,7 @@ impl<V: Device, G: Told> Floor<V, G> {
         ensures stands { IsAtWork V.faults G.draws (with_entry self.new worker.old.number) (attempt_begun self.old) }
         ensures answer { result ≡ answer_of (next self.old.plan.b (turns_made self.old) worker.old.number) self.new.stop }
         ensures floor { self.new ≡ record self.old { stash = self.new.stash; counts = self.new.counts; stop = self.new.stop } }
+        ensures dealt { self.new.stop ≡ None → IsDealt (C.target_list worker.old.coins) worker.old.bucket self.old self.new worker.old }
         ensures worker { self.new.stop ≡ None → worker.new ≡ record worker.old { phase = 3; stage = Stage.Chunks; buffers = record worker.old.buffers { chunks = worker.new.buffers.chunks } } }
         ensures kept { worker.new ≡ moved worker.old worker.new }
     {
@@ -429,6 +434,7 @@ impl<V: Device, G: Told> Floor<V, G> {
         ensures ready { self.new.recorder.plan ≡ self.old.recorder.plan }
         ensures trace { length self.new.recorder.trace ≡ length self.old.recorder.trace + 1 }
         ensures access { self.new.recorder.trace ≡ self.old.recorder.trace ++ access_of self.old.plan (attempt_begun self.old) Op.Write (chunk_slot self.old.plan worker.old.bucket (worker.old.phase - 3)) ∷ [] }
+        ensures log { self.new.recorder.log ≡ self.old.recorder.log ++ write_of self.old.plan worker.old.run (attempt_begun self.old) worker.old.bucket (worker.old.phase - 3) self.new.stop worker.old.buffers.chunks ∷ [] }
         ensures last { self.new.recorder.last ≡ self.old.recorder.last }
         ensures worker { self.new.stop ≡ None → worker.new ≡ passed worker.old }
         ensures kept { worker.new ≡ moved worker.old worker.new }
@@ -466,6 +472,9 @@ impl<V: Device, G: Told> Floor<V, G> {
         ensures room { length self.new.recorder.trace + self.new.recorder.room ≡ length self.old.recorder.trace + self.old.recorder.room }
         ensures few { length self.new.recorder.trace ≤ length self.old.recorder.trace + 1 }
         ensures access { self.new.recorder.trace ≡ self.old.recorder.trace ++ option_to_list (asked self.old.plan (attempt_begun self.old) (next self.old.plan.b (turns_made self.old) worker.old.number)) }
+        ensures holds { HoldsRecords self.new worker.new }
+        ensures deals { self.new.stop ≡ None → Deals (C.target_list worker.old.coins) (next self.old.plan.b (turns_made self.old) worker.old.number) self.old self.new worker.old }
+        ensures log { self.new.recorder.log ≡ self.old.recorder.log ++ noted_of self.old.plan worker.old.run (attempt_begun self.old) (next self.old.plan.b (turns_made self.old) worker.old.number) self.new.stop self.new.recorder.last worker.old.buffers.chunks }
         ensures round { self.new.stop ≡ None → IsInRound self.old.plan.b (turns_made self.old ++ worker.old.number ∷ []) worker.new }
         ensures moved { worker.new ≡ moved worker.old worker.new }
     {
@@ -504,6 +513,9 @@ impl<V: Device, G: Told> Floor<V, G> {
         ensures room { length self.new.recorder.trace + self.new.recorder.room ≡ length self.old.recorder.trace + self.old.recorder.room }
         ensures few { length self.new.recorder.trace ≤ length self.old.recorder.trace + 1 }
         ensures access { self.new.recorder.trace ≡ self.old.recorder.trace ++ option_to_list (asked self.old.plan (attempt_begun self.old) (next self.old.plan.b (turns_made self.old) worker.old.number)) }
+        ensures holds { HoldsRecords self.new worker.new }
+        ensures deals { self.new.stop ≡ None → Deals (C.target_list worker.old.coins) (next self.old.plan.b (turns_made self.old) worker.old.number) self.old self.new worker.old }
+        ensures log { self.new.recorder.log ≡ self.old.recorder.log ++ noted_of self.old.plan worker.old.run (attempt_begun self.old) (next self.old.plan.b (turns_made self.old) worker.old.number) self.new.stop self.new.recorder.last worker.old.buffers.chunks }
         ensures round { self.new.stop ≡ None → IsInRound self.old.plan.b (turns_made self.old ++ worker.old.number ∷ []) worker.new }
         ensures moved { worker.new ≡ moved worker.old worker.new }
     {
@@ -528,6 +540,9 @@ impl<V: Device, G: Told> Floor<V, G> {
         ensures kept { self.new ≡ record self.old { recorder = self.new.recorder; stash = self.new.stash; counts = self.new.counts; counted = self.new.counted; stop = self.new.stop } }
         ensures few { length self.new.recorder.trace ≤ length self.old.recorder.trace + 1 }
         ensures access { self.old.attempt ≢ None → self.old.stop ≡ None → self.new.recorder.trace ≡ self.old.recorder.trace ++ option_to_list (asked self.old.plan (attempt_begun self.old) (next self.old.plan.b (turns_made self.old) worker.old.number)) }
+        ensures holds { HoldsRecords self.new worker.new }
+        ensures deals { self.old.attempt ≢ None → self.old.stop ≡ None → self.new.stop ≡ None → Deals (C.target_list worker.old.coins) (next self.old.plan.b (turns_made self.old) worker.old.number) self.old self.new worker.old }
+        ensures log { self.old.attempt ≢ None → self.old.stop ≡ None → self.new.recorder.log ≡ self.old.recorder.log ++ noted_of self.old.plan worker.old.run (attempt_begun self.old) (next self.old.plan.b (turns_made self.old) worker.old.number) self.new.stop self.new.recorder.last worker.old.buffers.chunks }
         ensures later { self.old.stop ≢ None → self.new ≡ self.old }
         ensures idle { self.old.attempt ≡ None → self.new ≡ self.old }
         ensures worker { self.old.attempt ≢ None → WorkerStands (with_entry self.new worker.old.number) worker.new }
@@ -565,6 +580,7 @@ impl<V: Device, G: Told> Floor<V, G> {
         ensures outcome { self.new.outcome ≡ self.old.outcome }
         ensures few { length self.new.recorder.trace ≤ length self.old.recorder.trace + 1 }
         ensures access { self.old.attempt ≢ None → self.old.stop ≡ None → self.new.recorder.trace ≡ self.old.recorder.trace ++ option_to_list (asked self.old.plan (attempt_begun self.old) (next self.old.plan.b (turns_made self.old) worker.old.number)) }
+        ensures log { self.old.attempt ≢ None → self.old.stop ≡ None → self.new.recorder.log ≡ self.old.recorder.log ++ noted_of self.old.plan worker.old.run (attempt_begun self.old) (next self.old.plan.b (turns_made self.old) worker.old.number) self.new.stop self.new.recorder.last worker.old.buffers.chunks }
         ensures later { self.old.stop ≢ None → self.new ≡ with_entry self.old worker.old.number }
         ensures idle { self.old.attempt ≡ None → self.new ≡ with_entry self.old worker.old.number }
         ensures worker { self.old.attempt ≢ None → WorkerStands self.new worker.new }
@@ -572,6 +588,11 @@ impl<V: Device, G: Told> Floor<V, G> {
         ensures moved { worker.new ≡ moved worker.old worker.new }
         ensures worker_later { self.old.stop ≢ None → worker.new ≡ worker.old }
         ensures worker_idle { self.old.attempt ≡ None → worker.new ≡ worker.old }
+
+        // The worker and the others hold the records of what they read, and the queues have those of their places.
+        ensures holds { HoldsRecords self.new worker.new }
+        ensures others_hold { (other : Working C) → HoldsRecords self.old other → HoldsRecords self.new other }
+        ensures queues { HoldsRecords self.old worker.old → QueuesHold G.draws self.old → QueuesHold G.draws self.new }
     {
         let turn = self.take(worker);
         self.history.push_reserved(worker.number());

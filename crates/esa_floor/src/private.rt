@@ -8,7 +8,7 @@ ghost use Rattle.esa_stash.specs.Stash.{chunks as chunks_of, count, exchanged, t
 ghost use Rattle.esa_vault.specs.Items.{IsEnvelopeLength};
 ghost use Rattle.esa_vault.specs.Placed.{IsSpelled};
 ghost use Rattle.esa_vault.specs.Seals.{opens};
-ghost use Rattle.esa_vault.specs.Traffic.{IsOpenedTo, IsRead};
+ghost use Rattle.esa_vault.specs.Traffic.{GivesLatest, IsOpenedTo, IsRead};
 ghost use Rattle.esa_floor.specs.Exchanges.{AreOf};
 ghost use Rattle.esa_floor.specs.Parts.{count_at};
 ghost use Rattle.esa_floor.specs.Private.{AreRooms, AreSealed, blocks_in, item_opened, sealed_chunk};
@@ -175,6 +175,7 @@ fn read_some<V: Device>(
     requires text { size ≤ length text.old }
     ensures read { IsRead V.told V.faults V.last_call plan.now (at Region.Input bucket) attempt (opens plan.now keys.now (at Region.Input bucket) attempt 0) (take (size + 40) sealed.new) recorder.old recorder.new result }
     ensures opened { IsOpenedTo plan.now keys.now (at Region.Input bucket) attempt (take (size + 40) sealed.new) (take size text.old) (take size text.new) result }
+    ensures latest { GivesLatest plan.now keys.now (at Region.Input bucket) attempt 0 (take size text.new) recorder.old recorder.new result }
 {
     let slot = Slot {
         region: Region::Input,
@@ -212,6 +213,7 @@ pub(crate) fn read_first<V: Device>(
     requires text { size ≤ length text.old.items }
     ensures read { IsRead V.told V.faults V.last_call plan.now (at Region.Input bucket) attempt (opens plan.now keys.now (at Region.Input bucket) attempt 0) (take (size + 40) sealed.new.items) recorder.old recorder.new result }
     ensures opened { IsOpenedTo plan.now keys.now (at Region.Input bucket) attempt (take (size + 40) sealed.new.items) (take size text.old.items) (take size text.new.items) result }
+    ensures latest { GivesLatest plan.now keys.now (at Region.Input bucket) attempt 0 (take size text.new.items) recorder.old recorder.new result }
     ensures sealed { length sealed.new.items ≡ length sealed.old.items }
     ensures text { length text.new.items ≡ length text.old.items }
 {

@@ -10,7 +10,9 @@ ghost use Rattle.esa_vault.specs.Placed.{IsSpelled};
 ghost use Rattle.esa_vault.specs.Seals.{opens};
 ghost use Rattle.esa_vault.specs.Traffic.{IsOpenedTo, IsRead, IsWritten};
 ghost use Rattle.esa_floor.specs.Exchanges.{AreOf};
+ghost use Rattle.esa_floor.specs.Keeping.{OpensTo};
 ghost use Rattle.esa_floor.specs.Parts.{count_at};
+ghost use Rattle.esa_floor.specs.Private.{sealed_chunk};
 ghost use Rattle.esa_floor.specs.Workers.{IsInRound};
 ghost use Rattle.esa_floor.specs.Working.{AreDrawn, AreOpened, IsBegun, IsReady, Prepares, attempt_in, begun_with, block_for, handed_by, passed};
 
@@ -210,6 +212,7 @@ impl<'c, C: Coins> Worker<'c, C> {
         requires room { 0 < recorder.old.room }
         ensures read { IsRead V.told V.faults V.last_call self.old.buffers.plan (at Region.Input self.old.bucket) (attempt_in self.old.attempt) (opens self.old.buffers.plan self.old.run (at Region.Input self.old.bucket) (attempt_in self.old.attempt) 0) (take (block_length self.old.buffers.plan (at Region.Input self.old.bucket)) self.new.buffers.sealed) recorder.old recorder.new result }
         ensures opened { IsOpenedTo self.old.buffers.plan self.old.run (at Region.Input self.old.bucket) (attempt_in self.old.attempt) (take (block_length self.old.buffers.plan (at Region.Input self.old.bucket)) self.new.buffers.sealed) (take (plain_length self.old.buffers.plan Region.Input self.old.bucket) self.old.buffers.text) (take (plain_length self.old.buffers.plan Region.Input self.old.bucket) self.new.buffers.text) result }
+        ensures opens { OnOk result (OpensTo self.old.buffers.plan self.old.run (attempt_in self.old.attempt) self.old.bucket self.new.buffers.text recorder.old recorder.new) }
         ensures held { OnOk result (self.new ≡ record self.old { phase = 2; stage = Stage.Envelopes; buffers = record self.old.buffers { text = self.new.buffers.text; sealed = self.new.buffers.sealed } }) }
         ensures failed { OnErr result (self.new ≡ record self.old { stage = Stage.Empty; buffers = record self.old.buffers { text = self.new.buffers.text; sealed = self.new.buffers.sealed } }) }
     {
@@ -255,6 +258,7 @@ impl<'c, C: Coins> Worker<'c, C> {
         requires ready { recorder.old.plan ≡ Some self.old.buffers.plan }
         requires room { 0 < recorder.old.room }
         ensures written { IsWritten V.told V.faults V.last_call self.old.buffers.plan (chunk_slot self.old.buffers.plan self.old.bucket (self.old.phase - 3)) (attempt_in self.old.attempt) (block_for self.old.buffers (self.old.phase - 3)) recorder.old recorder.new result }
+        ensures sealed { block_for self.old.buffers (self.old.phase - 3) ≡ sealed_chunk self.old.buffers.plan self.old.run self.old.bucket (attempt_in self.old.attempt) self.old.buffers.chunks (self.old.phase - 3) }
         ensures passed { OnOk result (self.new ≡ passed self.old) }
         ensures failed { OnErr result (self.new ≡ self.old) }
     {

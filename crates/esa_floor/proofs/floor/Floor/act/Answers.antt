@@ -1,15 +1,18 @@
 -- The worker is in its round after the act.
-use Rattle.std.proofs.Common.{◌≡◌, ◌≢◌, ◌++◌, ◌∷◌, [], Option, sym, ap, ◌∙◌, subst, arith, append-nil}
+use Rattle.std.proofs.Common.{◌≡◌, ◌≢◌, ◌++◌, ◌∷◌, [], List, Option, None, refl, sym, ap, ◌∙◌, subst, arith, append-nil}
 use Rattle.std.specs.Option.{option_to_list}
 use Rattle.esa_params.specs.Sizes.{Sizes}
 use Rattle.esa_params.specs.declared.slot.Access.{Access}
 use Rattle.esa_spec.specs.Traces.{asked}
 use Rattle.esa_spec.specs.declared.event.Event.{Event}
+use Rattle.esa_device.specs.Logs.{Carried}
+use Rattle.esa_floor.specs.Keeping.{Deals}
+use Rattle.esa_floor.specs.Logging.{noted_of}
 use Rattle.esa_floor.specs.Parts.{Parts}
 use Rattle.esa_floor.specs.Standing.{attempt_begun, turns_made}
 use Rattle.esa_floor.specs.Workers.{IsInRound}
 use Rattle.esa_floor.specs.Working.{Working}
-use Rattle.esa_floor.proofs.Acting.{next_is_idle, quiet_first}
+use Rattle.esa_floor.proofs.Acting.{at_first, next_is_idle}
 use Rattle.esa_floor.proofs.Rounding.{claim_round, pass_round}
 use Rattle.esa_floor.proofs.Turning.{spread_is}
 use Rattle.esa_floor.proofs.floor.Floor.act.Goals as goal
@@ -41,7 +44,8 @@ returns-then-phase-eq0-clause-access g c =
     let w = c.args.worker.now in
     let first = c.requires.phase ∙ sym c.phase.ensures ∙ c.if-phase-eq0.true in
     ap (λ (x : Parts _). x.recorder.trace) c.claim.ensures.floor ∙ sym (append-nil f.recorder.trace)
-    ∙ ap (λ (o : Option Access). f.recorder.trace ++ option_to_list o) (sym (quiet_first f.plan.b (turns_made f) w.number f.plan (attempt_begun f) first))
+    ∙ ap (λ (o : Option Access). f.recorder.trace ++ option_to_list o)
+    (sym (at_first f.plan.b (turns_made f) w.number (λ e. asked f.plan (attempt_begun f) e ≡ None) (λ j. refl) refl first))
 
 pub returns-then-bucket-b-clause-access : goal.returns-then-bucket-b-clause-access
 returns-then-bucket-b-clause-access g c =
@@ -56,3 +60,67 @@ returns-then-bucket-b-clause-access g c =
     let held_is = c.requires.held more in
     let idle = next_is_idle f.plan.b (turns_made f) w.number (λ first. more (sym c.requires.phase ∙ first)) (omega (arith, held_is, bucket_is, b_is, none)) in
     sym (append-nil f.recorder.trace) ∙ ap (λ (e : Event). f.recorder.trace ++ option_to_list (asked f.plan (attempt_begun f) e)) (sym idle)
+
+pub returns-then-phase-eq0-clause-log : goal.returns-then-phase-eq0-clause-log
+returns-then-phase-eq0-clause-log g c =
+    let f = c.args.self.now in
+    let w = c.args.worker.now in
+    let new = c.claim.new.self in
+    let first = c.requires.phase ∙ sym c.phase.ensures ∙ c.if-phase-eq0.true in
+    ap (λ (x : Parts _). x.recorder.log) c.claim.ensures.floor ∙ sym (append-nil f.recorder.log)
+    ∙ ap (λ (more : List Carried). f.recorder.log ++ more)
+    (sym (at_first f.plan.b (turns_made f) w.number (λ e. noted_of f.plan w.run (attempt_begun f) e new.stop new.recorder.last w.buffers.chunks ≡ []) (λ j. refl) refl first))
+
+pub returns-then-bucket-b-clause-log : goal.returns-then-bucket-b-clause-log
+returns-then-bucket-b-clause-log g c =
+    let f = c.args.self.now in
+    let w = c.args.worker.now in
+    let b_is : c.b.result ≡ f.plan.b = c.b.ensures.value ∙ ap (λ (p : Sizes). p.b) (c.plan.ensures ∙ ap (λ (f : Parts _). f.plan) c.self.view_is) in
+    let phase_is = c.phase.ensures in
+    let bucket_is = c.bucket.ensures in
+    let none = c.if-bucket-b.true in
+    let later = c.if-phase-eq0.false in
+    let more : w.phase ≢ 0 = λ first. absurd (omega (arith, phase_is, later, first)) in
+    let held_is = c.requires.held more in
+    let idle = next_is_idle f.plan.b (turns_made f) w.number (λ first. more (sym c.requires.phase ∙ first)) (omega (arith, held_is, bucket_is, b_is, none)) in
+    sym (append-nil f.recorder.log)
+    ∙ ap (λ (e : Event). f.recorder.log ++ noted_of f.plan w.run (attempt_begun f) e f.stop f.recorder.last w.buffers.chunks) (sym idle)
+
+pub returns-then-phase-eq0-clause-holds : goal.returns-then-phase-eq0-clause-holds
+returns-then-phase-eq0-clause-holds g c = λ record_of input begun runs second inside.
+    let one = ap (λ (x : Working _). x.phase) c.claim.ensures.worker in
+    absurd (omega (arith, one, second))
+
+pub returns-then-bucket-b-clause-holds : goal.returns-then-bucket-b-clause-holds
+returns-then-bucket-b-clause-holds g c = λ record_of input begun runs second inside.
+    let f = c.args.self.now in
+    let b_is : c.b.result ≡ f.plan.b = c.b.ensures.value ∙ ap (λ (p : Sizes). p.b) (c.plan.ensures ∙ ap (λ (f : Parts _). f.plan) c.self.view_is) in
+    let bucket_is = c.bucket.ensures in
+    let none = c.if-bucket-b.true in
+    let same = ap (λ (x : Working _). x.bucket) c.pass.ensures.worker in
+    absurd (omega (arith, inside, same, none, bucket_is, b_is))
+
+pub returns-clause-holds : goal.returns-clause-holds
+returns-clause-holds g c = c.go_on.ensures.holds
+
+pub returns-then-phase-eq0-clause-deals : goal.returns-then-phase-eq0-clause-deals
+returns-then-phase-eq0-clause-deals g c = λ runs.
+    let f = c.args.self.now in
+    let w = c.args.worker.now in
+    let first = c.requires.phase ∙ sym c.phase.ensures ∙ c.if-phase-eq0.true in
+    let same = ap (λ (x : Parts _). x.stash) c.claim.ensures.floor in
+    at_first f.plan.b (turns_made f) w.number (λ (e : Event). Deals (g.C.Coins.target_list w.coins) e f c.claim.new.self w) (λ j. same) same first
+
+pub returns-then-bucket-b-clause-deals : goal.returns-then-bucket-b-clause-deals
+returns-then-bucket-b-clause-deals g c = λ runs.
+    let f = c.args.self.now in
+    let w = c.args.worker.now in
+    let b_is : c.b.result ≡ f.plan.b = c.b.ensures.value ∙ ap (λ (p : Sizes). p.b) (c.plan.ensures ∙ ap (λ (f : Parts _). f.plan) c.self.view_is) in
+    let phase_is = c.phase.ensures in
+    let bucket_is = c.bucket.ensures in
+    let none = c.if-bucket-b.true in
+    let later = c.if-phase-eq0.false in
+    let more : w.phase ≢ 0 = λ first. absurd (omega (arith, phase_is, later, first)) in
+    let held_is = c.requires.held more in
+    let idle = next_is_idle f.plan.b (turns_made f) w.number (λ first. more (sym c.requires.phase ∙ first)) (omega (arith, held_is, bucket_is, b_is, none)) in
+    subst (λ (e : Event). Deals (g.C.Coins.target_list w.coins) e f f w) (sym idle) refl

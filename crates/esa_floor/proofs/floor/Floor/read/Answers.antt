@@ -1,11 +1,16 @@
 -- The block of the worker's bucket was read.
-use Rattle.std.proofs.Common.{◌≢◌, ℕ, None, sym, ap, ◌∙◌, arith}
+use Rattle.std.proofs.Common.{◌≢◌, ℕ, Option, None, sym, ap, ◌∙◌, arith, subst}
+use Rattle.esa_device.specs.Recording.{Recorded}
+use Rattle.esa_envelope.specs.declared.keys.Keys.{Keys}
+use Rattle.esa_params.specs.Sizes.{Sizes}
 use Rattle.esa_spec.specs.Turns.{next_phase}
 use Rattle.esa_spec.specs.declared.event.Event.{Event}
 use Rattle.esa_spec.specs.declared.event.Event.TheVariants.{Read}
 use Rattle.esa_floor.specs.Acts.{answer_of}
+use Rattle.esa_floor.specs.Keeping.{OpensTo}
 use Rattle.esa_floor.specs.Parts.{Parts}
 use Rattle.esa_floor.specs.Standing.{attempt_begun, turns_made}
+use Rattle.esa_floor.specs.Working.{attempt_in}
 use Rattle.esa_floor.proofs.Acting.{next_reads}
 use Rattle.esa_floor.proofs.Making.{answered_is, read_here}
 use Rattle.esa_floor.proofs.floor.Floor.read.Goals as goal
@@ -29,3 +34,15 @@ returns-clause-answer g c =
     ∙ answered_is _ _ c.read-self-inside.result
     (ap (λ (e : Event). answer_of e None) (next_reads f.plan.b (turns_made f) w.number w.bucket c.requires.held c.requires.bucket c.requires.phase)
     ∙ ap (λ (j : ℕ). answer_of (Read j) None) (sym c.bucket-bucket.ensures))
+
+pub returns-clause-opened : goal.returns-clause-opened
+returns-clause-opened g c = λ runs.
+    let f = c.args.self.now in
+    let w = c.args.worker.now in
+    let text = c.read-self-inside.new.worker.buffers.text in
+    let new = c.read-self-inside.new.recorder in
+    subst (λ (p : Sizes). OpensTo p f.run (attempt_begun f) w.bucket text f.recorder new) c.requires.plan
+    (subst (λ (k : Keys). OpensTo w.buffers.plan k (attempt_begun f) w.bucket text f.recorder new) c.requires.run
+    (subst (λ (o : Option ℕ). OpensTo w.buffers.plan w.run (attempt_in o) w.bucket text f.recorder new) c.requires.attempt
+    (subst (λ (r : Recorded _). OpensTo w.buffers.plan w.run (attempt_in w.attempt) w.bucket text r new) (ap (λ (x : Parts _). x.recorder) c.self.view_is)
+    (c.read-self-inside.ensures.opened runs))))

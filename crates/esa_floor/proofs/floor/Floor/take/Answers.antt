@@ -4,7 +4,7 @@ use Rattle.esa_floor.specs.Parts.{Parts, with_entry}
 use Rattle.esa_floor.specs.Standing.{IsAtWork, attempt_begun}
 use Rattle.esa_floor.specs.Working.{Working}
 use Rattle.esa_floor.specs.declared.turn.Stop.{Stop}
-use Rattle.esa_floor.proofs.Resting.{of_on, rests_on, room_left, round_on, working, works_on}
+use Rattle.esa_floor.proofs.Resting.{none_or_some, of_on, rests_on, room_left, round_on, working, works_on}
 use Rattle.esa_floor.proofs.Turning.{stands_later, turned}
 use Rattle.esa_floor.proofs.floor.Floor.take.Goals as goal
 
@@ -79,3 +79,19 @@ returns-in-None-clause-worker g c = λ some.
       round = λ runs. round_on g.V.Device.faults g.G.Told.draws f n worker (with_entry new n)
           (ap (λ (x : Parts _). x.plan) c.act.ensures.kept) (ap (λ (x : Parts _). (with_entry x n).history) c.act.ensures.kept) c.act.new.worker (c.act.ensures.round runs);
     }
+
+pub returns-in-None-clause-holds : goal.returns-in-None-clause-holds
+returns-in-None-clause-holds g c = c.act.ensures.holds
+
+pub returns-then-is_none-clause-holds : goal.returns-then-is_none-clause-holds
+returns-then-is_none-clause-holds g c = λ record_of input some runs second inside.
+    let none : c.args.self.now.attempt ≡ None = search rules in
+    absurd (some none)
+
+pub returns-in-Some-clause-holds : goal.returns-in-Some-clause-holds
+returns-in-Some-clause-holds g c = λ record_of input some runs second inside.
+    let stopped : c.args.self.now.stop ≡ Some c.in-Some.stop = sym (ap (λ (x : Parts _). x.stop) c.self.view_is) ∙ c.in-Some.is in
+    absurd (none_or_some c.in-Some.stop (sym stopped ∙ runs))
+
+pub returns-in-None-clause-deals : goal.returns-in-None-clause-deals
+returns-in-None-clause-deals g c = λ some before runs. c.act.ensures.deals runs

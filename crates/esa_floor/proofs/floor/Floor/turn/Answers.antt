@@ -1,7 +1,11 @@
 -- The mark does not fall, and other workers stand as before.
-use Rattle.std.proofs.Common.{◌≢◌, ℕ, ◌∷◌, ◌++◌, List, [], ap, ◌∙◌, arith}
+use Rattle.std.proofs.Common.{◌≡◌, ◌≢◌, ℕ, ◌∷◌, ◌++◌, List, [], sym, ap, ◌∙◌, subst, arith}
+use Rattle.esa_spec.specs.Turns.{next}
+use Rattle.esa_floor.specs.Keeping.{HoldsRecords, QueuesHold}
 use Rattle.esa_floor.specs.Parts.{Parts}
+use Rattle.esa_floor.specs.Standing.{attempt_begun, turns_made}
 use Rattle.esa_floor.specs.Working.{Working}
+use Rattle.esa_floor.proofs.Queueing.{held_on, queues_on}
 use Rattle.esa_floor.proofs.Resting.{begun_on, mark_grows, others_on}
 use Rattle.esa_floor.proofs.floor.Floor.turn.Goals as goal
 
@@ -64,3 +68,36 @@ returns-clause-others g c = λ other apart stands.
     (ap (λ (x : Parts _). x.attempt) kept)
     (λ some. ap (λ (x : Parts _). x.stop) (c.self.view_is ∙ c.take-turn.ensures.later some))
     other apart stands
+
+pub returns-clause-holds : goal.returns-clause-holds
+returns-clause-holds g c = subst (λ (x : Parts _). HoldsRecords x c.take-turn.new.worker) (sym c.self.view_is) c.take-turn.ensures.holds
+
+pub returns-clause-others_hold : goal.returns-clause-others_hold
+returns-clause-others_hold g c = λ other holds.
+    let f = c.args.self.now in
+    let w = c.args.worker.now in
+    let turn = c.take-turn.ensures in
+    let new = c.take-turn.new.self in
+    subst (λ (x : Parts _). HoldsRecords x other) (sym c.self.view_is)
+    (λ record_of. held_on f new w.run (attempt_begun f) (next f.plan.b (turns_made f) w.number) w.buffers.chunks
+    turn.kept c.requires.of.run turn.idle turn.later turn.log record_of other holds)
+
+pub returns-clause-queues : goal.returns-clause-queues
+returns-clause-queues g c = λ holds queues.
+    let f = c.args.self.now in
+    let w = c.args.worker.now in
+    let few = c.requires.of.number in
+    let worker : w.number ≢ f.plan.workers = λ same. absurd (omega (arith, same, few)) in
+    let turn = c.take-turn.ensures in
+    let new = c.take-turn.new.self in
+    let room = c.push_reserved.new.self.cap in
+    let longer : c.push_reserved.new.self.items ≡ f.history ++ w.number ∷ [] =
+    c.push_reserved.ensures.items ∙ ap (λ (xs : List ℕ). xs ++ c.number.result ∷ []) (ap (λ (x : Parts _). x.history) (c.self.view_is ∙ turn.kept))
+    ∙ ap (λ (k : ℕ). f.history ++ k ∷ []) (c.number.ensures ∙ ap (λ (x : Working _). x.number) turn.moved) in
+    subst (λ (x : Parts _). QueuesHold g.G.Told.draws x)
+    (ap (λ (xs : List ℕ). record new { history = xs; room = room }) (sym longer)
+    ∙ ap (λ (x : Parts _). record x { history = c.push_reserved.new.self.items; room = room }) (sym c.self.view_is))
+    (λ record_of. queues_on f new w.run (attempt_begun f) (next f.plan.b (turns_made f) w.number) w.buffers.chunks
+    turn.kept c.requires.of.run turn.idle turn.later turn.log record_of
+    g.V.Device.faults g.G.Told.draws (g.C.Coins.target_list w.coins) w.number room worker w c.requires.stands.state c.requires.of c.requires.worker
+    turn.deals holds queues)

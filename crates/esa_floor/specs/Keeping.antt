@@ -1,0 +1,75 @@
+-- What a floor and its workers keep of the records of the input.
+use Rattle.std.specs.Prelude.{◌≡◌, ◌≢◌, ℕ, ◌<◌, List, length, map, take, None}
+use Rattle.esa_device.specs.Logs.{Carried, IsFaithful, Took}
+use Rattle.esa_device.specs.Recording.{Recorded}
+use Rattle.esa_envelope.specs.declared.keys.Keys.{Keys}
+use Rattle.esa_params.specs.Form.{envelope_length}
+use Rattle.esa_params.specs.Sizes.{Sizes, below, places_of, size}
+use Rattle.esa_params.specs.Slots.{at, number_of, plain_length}
+use Rattle.esa_params.specs.declared.slot.Region.TheVariants.{Input}
+use Rattle.esa_report.specs.declared.item.Item.{Item}
+use Rattle.esa_spec.specs.Draws.{Draw}
+use Rattle.esa_spec.specs.Lines.{queued}
+use Rattle.esa_spec.specs.Turns.{order}
+use Rattle.esa_spec.specs.declared.event.Event.{Event}
+use Rattle.esa_spec.specs.declared.event.Event.TheVariants.{Claim, Read, Exchange, Write, Done, Idle}
+use Rattle.esa_stash.specs.Stash.{exchanged, queue_at}
+use Rattle.esa_vault.specs.Seals.{sealed_block}
+use Rattle.esa_floor.specs.Exchanges.{AreOf}
+use Rattle.esa_floor.specs.Parts.{Parts}
+use Rattle.esa_floor.specs.Private.{item_opened}
+use Rattle.esa_floor.specs.Standing.{attempt_begun, turns_made}
+use Rattle.esa_floor.specs.Working.{AreDrawn, AreOpened, Working, attempt_in, handed_by}
+
+-- the envelopes of a text open to the records of the places of bucket j
+abbrev pub AreRecords : Sizes → Keys → (ℕ → Item) → ℕ → List ℕ → Type 0
+AreRecords p outer record_of j text =
+    map (item_opened outer (envelope_length p.form) text) (below (size p j)) ≡ map record_of (places_of p j)
+
+-- a batch with these records was loaded: the log is faithful, and the latest write of each block of the input took the
+-- seal of a text of them
+pub record IsInput (p : Sizes) (outer run : Keys) (record_of : ℕ → Item) (log : List Carried) : Type 0 where
+  pub faithful : IsFaithful p log
+  pub sealed : (j : ℕ) → j < p.b
+      → (text : List ℕ) × Took p (number_of p (at Input j)) (sealed_block p run (at Input j) 0 text) log × AreRecords p outer record_of j text
+
+abbrev pub HasInput : {V : Type 0} → Parts V → (ℕ → Item) → Type 0
+HasInput f record_of = IsInput f.plan f.outer f.run record_of f.recorder.log
+
+-- a read of the block of bucket j opened to the text whose seal its latest write took, where the log is faithful
+abbrev pub OpensTo : {V : Type 0} → Sizes → Keys → ℕ → ℕ → List ℕ → Recorded V → Recorded V → Type 0
+OpensTo p run a j text old new =
+    (sealed : List ℕ) → IsFaithful p new.log → Took p (number_of p (at Input j)) (sealed_block p run (at Input j) a sealed) old.log
+    → take (plain_length p Input j) text ≡ sealed
+
+-- from its read to its exchange, a worker holds envelopes of the records of its bucket, while no turn of the attempt has
+-- failed
+abbrev pub HoldsRecords : {V C : Type 0} → Parts V → Working C → Type 0
+HoldsRecords f w =
+    (record_of : ℕ → Item) → HasInput f record_of → f.attempt ≢ None → f.stop ≡ None → w.phase ≡ 2 → w.bucket < f.plan.b
+    → AreRecords f.plan f.outer record_of w.bucket w.buffers.text
+
+-- the exchange of bucket j: its worker handed over the items of its envelopes, by the targets that its coins drew
+pub record IsDealt {V C : Type 0} (target_list : ℕ → ℕ → List ℕ) (j : ℕ) (old new : Parts V) (w : Working C) : Type 0 where
+  pub bucket : w.bucket ≡ j
+  pub inside : j < old.plan.b
+  pub of : AreOf old.plan old.stash old.counts
+  pub opened : AreOpened w.outer w.buffers j
+  pub drawn : AreDrawn (target_list (attempt_in w.attempt) j) w.buffers j
+  pub stash : new.stash ≡ exchanged old.stash (handed_by w.buffers j)
+
+-- what a turn with this event that did not fail makes of the stash
+abbrev pub Deals : {V C : Type 0} → (ℕ → ℕ → List ℕ) → Event → Parts V → Parts V → Working C → Type 0
+Deals target_list (Claim j) old new w = new.stash ≡ old.stash
+Deals target_list (Read j) old new w = new.stash ≡ old.stash
+Deals target_list (Exchange j) old new w = (w.phase ≡ 2) × IsDealt target_list j old new w
+Deals target_list (Write j i) old new w = new.stash ≡ old.stash
+Deals target_list Done old new w = new.stash ≡ old.stash
+Deals target_list Idle old new w = new.stash ≡ old.stash
+
+-- while no turn of the attempt has failed, each queue has the records of the places that wait for its target
+abbrev pub QueuesHold : {V : Type 0} → (ℕ → Draw) → Parts V → Type 0
+QueuesHold ds f =
+    (record_of : ℕ → Item) → HasInput f record_of → f.attempt ≢ None → f.stop ≡ None → (i : ℕ) → i < f.plan.b
+    → queue_at f.stash i
+    ≡ map record_of (queued f.plan (ds (attempt_begun f)) (order f.plan.b (turns_made f)) (length (order f.plan.b (turns_made f))) i)
