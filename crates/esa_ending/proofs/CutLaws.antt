@@ -11,7 +11,7 @@ use Rattle.esa_spec.specs.Traces.{spread, rest, drain, attempt_trace, is_failed,
 use Rattle.esa_spec.specs.Turns.{order}
 use Rattle.esa_spec.specs.Verdicts.{failing, is_finished, is_good, left, verdict}
 use Rattle.esa_ending.specs.Endings.{Succeeds, Overflows, IsCutAt}
-use Rattle.esa_ending.specs.Seen.{Seen, stored, Begins, EndsWith, AreCut, verdict_in}
+use Rattle.esa_ending.specs.Seen.{Seen, IsCalm, stored, HasHistory, Begins, EndsWith, AreCut, verdict_in}
 use Rattle.esa_ending.proofs.FrontLaws.{behind, joined-front, onward, whole}
 
 -- an attempt that isn't finished has no accesses behind its turns
@@ -176,20 +176,22 @@ module _ (p : Sizes) (ds : ℕ → Draw) where
 
 -- what is seen beside the stored turns
 module _ (p : Sizes) (ds : ℕ → Draw) (hs : List (List ℕ)) (seen : Seen) where
-  pub succeeded : (a : ℕ) → a < p.attempts → stored p seen ≡ take (a + 1) hs → good_attempt p ds 0 (stored p seen) ≡ Some a
+  pub succeeded : (a : ℕ) → HasHistory p seen → IsCalm seen → a < p.attempts → stored p seen ≡ take (a + 1) hs → good_attempt p ds 0 (stored p seen) ≡ Some a
       → seen.trace ≡ shuffle_trace p ds (stored p seen) ++ (scan p a ++ scan p a) → Succeeds p ds hs seen a
-  succeeded a planned same good traced =
+  succeeded a history calm planned same good traced =
       let good' : good_attempt p ds 0 (take (a + 1) hs) ≡ Some a = ap (good_attempt p ds 0) (sym same) ∙ good in
       record {
         planned = planned;
         good = good-of-take p ds hs (a + 1) a good';
         whole = traced ∙ ap (λ y. shuffle_trace p ds y ++ (scan p a ++ scan p a)) same ∙ sym (scanned p ds hs (a + 1) a good');
         turns = same;
+        history = history;
+        calm = calm;
       }
 
-  pub overflowed : length hs ≡ p.attempts → stored p seen ≡ hs → all_failed p ds 0 (stored p seen) ≡ true
+  pub overflowed : HasHistory p seen → IsCalm seen → length hs ≡ p.attempts → stored p seen ≡ hs → all_failed p ds 0 (stored p seen) ≡ true
       → seen.trace ≡ shuffle_trace p ds (stored p seen) → Overflows p ds hs seen (map (verdict_in p ds hs) (below p.attempts))
-  overflowed planned same failed traced =
+  overflowed history calm planned same failed traced =
       let failed' : all_failed p ds 0 hs ≡ true = ap (all_failed p ds 0) (sym same) ∙ failed in
       record {
         planned = planned;
@@ -197,21 +199,24 @@ module _ (p : Sizes) (ds : ℕ → Draw) (hs : List (List ℕ)) (seen : Seen) wh
         verdicts = refl;
         whole = traced ∙ ap (shuffle_trace p ds) same ∙ sym (none-scanned p ds hs failed');
         turns = same;
+        history = history;
+        calm = calm;
       }
 
-  pub cut-at : (access : Access) → AreCut (stored p seen) hs → EndsWith seen.trace access
+  pub cut-at : (access : Access) → HasHistory p seen → AreCut (stored p seen) hs → EndsWith seen.trace access
       → Begins seen.trace (trace p ds (stored p seen)) → IsCutAt p ds hs seen access
-  cut-at access cut last told =
+  cut-at access history cut last told =
       record {
         front = onward seen.trace (trace p ds (stored p seen)) (trace p ds hs) told (trace-front p ds (stored p seen) hs cut);
         last = last;
         turns = cut;
         of_stored = told;
+        history = history;
       }
 
-  pub cut-in-shuffle : (access : Access) → AreCut (stored p seen) hs → EndsWith seen.trace access
+  pub cut-in-shuffle : (access : Access) → HasHistory p seen → AreCut (stored p seen) hs → EndsWith seen.trace access
       → Begins seen.trace (shuffle_trace p ds (stored p seen)) → IsCutAt p ds hs seen access
-  cut-in-shuffle access cut last front =
+  cut-in-shuffle access history cut last front =
       let made = shuffle_trace p ds (stored p seen) in
-      cut-at access cut last
+      cut-at access history cut last
       (onward seen.trace made (trace p ds (stored p seen)) front (joined-front made (scans p (good_attempt p ds 0 (stored p seen)))))

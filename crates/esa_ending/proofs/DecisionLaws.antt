@@ -17,7 +17,7 @@ use Rattle.esa_spec.specs.Turns.{order}
 use Rattle.esa_spec.specs.Verdicts.{is_finished, is_good, verdict}
 use Rattle.esa_spec.specs.declared.event.Verdict.{Verdict}
 use Rattle.esa_ending.specs.Endings.{Succeeds, ComesOut, Overflows}
-use Rattle.esa_ending.specs.Seen.{Seen, stored, turns_in, verdict_in, come_out, SameTargets, SameOrders}
+use Rattle.esa_ending.specs.Seen.{Seen, stored, history_of, turns_in, verdict_in, come_out, SameTargets, SameOrders}
 
 -- draws that agree on the targets of some attempts
 module _ (p : Sizes) (ds es : ℕ → Draw) (n : ℕ) (same : (x : ℕ) → x < n → SameTargets p (ds x) (es x)) where
@@ -30,18 +30,19 @@ module _ (p : Sizes) (ds es : ℕ → Draw) (n : ℕ) (same : (x : ℕ) → x < 
       ∙ ap (λ y. cond (is_finished p (es a) h) (cond (is_good (verdict p (es a) h)) (Some a) y) None) (good-same (a + 1) hs (omega arith))
 
 module _ (p : Sizes) (ds es : ℕ → Draw) (hs : List (List ℕ)) (seen other : Seen) (same : (x : ℕ) → x < length hs → SameTargets p (ds x) (es x)) where
-  pub success-same : (a e : ℕ) → Succeeds p ds hs seen a → Succeeds p es hs other e → (a ≡ e) × (seen.trace ≡ other.trace) × (stored p seen ≡ stored p other)
+  pub success-same : (a e : ℕ) → Succeeds p ds hs seen a → Succeeds p es hs other e → (a ≡ e) × (seen.trace ≡ other.trace) × (seen.history ≡ other.history)
   success-same a e s t =
       let both : Some a ≡ Some e = sym s.good ∙ good-same p ds es (length hs) same 0 hs (omega arith) ∙ t.good in
       let is : a ≡ e = cc in
-      (is, s.whole ∙ trace-targets p ds es hs same ∙ sym t.whole, s.turns ∙ ap (λ y. take (y + 1) hs) is ∙ sym t.turns)
+      let turns : stored p seen ≡ stored p other = s.turns ∙ ap (λ y. take (y + 1) hs) is ∙ sym t.turns in
+      (is, s.whole ∙ trace-targets p ds es hs same ∙ sym t.whole, s.history ∙ ap (history_of p) turns ∙ sym t.history)
 
   pub overflow-same : (failures others : List Verdict) → Overflows p ds hs seen failures → Overflows p es hs other others
-      → (failures ≡ others) × (seen.trace ≡ other.trace) × (stored p seen ≡ stored p other)
+      → (failures ≡ others) × (seen.trace ≡ other.trace) × (seen.history ≡ other.history)
   overflow-same failures others s t =
       let verdicts = map-below-same (verdict_in p ds hs) (verdict_in p es hs) p.attempts
       (λ x x_in. verdict-targets p (ds x) (es x) (same x (omega (arith, s.planned))) (turns_in hs x)) in
-      (s.verdicts ∙ verdicts ∙ sym t.verdicts, s.whole ∙ trace-targets p ds es hs same ∙ sym t.whole, s.turns ∙ sym t.turns)
+      (s.verdicts ∙ verdicts ∙ sym t.verdicts, s.whole ∙ trace-targets p ds es hs same ∙ sym t.whole, s.history ∙ ap (history_of p) (s.turns ∙ sym t.turns) ∙ sym t.history)
 
   pub not-both : (a : ℕ) (failures : List Verdict) → Succeeds p ds hs seen a → Overflows p es hs other failures → ⊥
   not-both a failures s t =

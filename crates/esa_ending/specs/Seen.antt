@@ -1,5 +1,6 @@
 -- What is seen of a run, and the words in which its ends are told.
-use Rattle.std.specs.Prelude.{◌≡◌, ℕ, ◌<◌, ◌/◌, ◌%◌, List, [], ◌∷◌, ◌++◌, length, filter_map, slice_get, slice_index_or}
+use Rattle.std.specs.Prelude.{◌≡◌, ℕ, ◌<◌, ◌/◌, ◌%◌, List, [], ◌∷◌, ◌++◌, length, filter_map, flat_map, slice_get, slice_index_or}
+use Rattle.esa_outside.specs.Cause.{Rose}
 use Rattle.esa_params.specs.Sizes.{Sizes, size}
 use Rattle.esa_params.specs.declared.slot.Access.{Access}
 use Rattle.esa_params.specs.declared.slot.Region.{Region}
@@ -11,14 +12,42 @@ use Rattle.esa_spec.specs.Places.{exchange_of, places}
 use Rattle.esa_spec.specs.Verdicts.{verdict}
 use Rattle.esa_spec.specs.declared.event.Verdict.{Verdict}
 
--- the accesses that were stored, and the history that was stored
+-- a count of faults, before the run and after it
+pub record Faults : Type 0 where
+  pub before : ℕ
+  pub now : ℕ
+
+-- the accesses that were stored, the history that was stored, and what the device and the batch file count
 pub record Seen : Type 0 where
   pub trace : List Access
   pub history : List ℕ
+  pub device : Faults
+  pub batch : Faults
+
+-- something failed: the count rose, or stands at the last value of a u64
+abbrev pub Rises : Faults → Type 0
+Rises faults = Rose faults.before faults.now
+
+-- the count is as it was
+abbrev pub Stays : Faults → Type 0
+Stays faults = faults.now ≡ faults.before
+
+-- neither the device nor the batch file failed
+abbrev pub IsCalm : Seen → Type 0
+IsCalm seen = Stays seen.device × Stays seen.batch
 
 -- the turns of each attempt that was made
 abbrev pub stored : Sizes → Seen → List (List ℕ)
 stored p seen = lists p.workers seen.history
+
+-- the history of attempts with these turns: the owner's entry, and then the turns of each attempt with the owner's entry
+-- behind them
+abbrev pub history_of : Sizes → List (List ℕ) → List ℕ
+history_of p hs = p.workers ∷ flat_map (λ (h : List ℕ). h ++ p.workers ∷ []) hs
+
+-- the stored history has the stored turns and the owner's entries, and nothing else
+abbrev pub HasHistory : Sizes → Seen → Type 0
+HasHistory p seen = seen.history ≡ history_of p (stored p seen)
 
 -- a list begins another one
 abbrev pub Begins : {X : Type 0} → List X → List X → Type 0

@@ -1,7 +1,7 @@
 //! Each ending as one small shuffle has it, worked out by hand.
 
 ghost use Rattle.std.specs.Prelude.{◌≡◌, ℕ, ◌∷◌, [], false, replicate};
-ghost use Rattle.esa_ending.specs.Cases.{base_draws, seen_after, seen_in_load, stash_zero};
+ghost use Rattle.esa_ending.specs.Cases.{base_draws, seen_after, seen_at_fault, seen_in_load, stash_zero};
 ghost use Rattle.esa_ending.specs.Endings.{Succeeds, ComesOut, Overflows, DeviceFails, BlockIsTampered, BatchFails};
 ghost use Rattle.esa_ending.specs.Seen.{items_in};
 ghost use Rattle.esa_params.specs.declared.slot.Op.TheVariants.{Read};
@@ -22,7 +22,7 @@ fn stash_zero_overflows()
 
 // Access 7 is the write of the first chunk of bucket 1, in the ninth turn.
 fn device_fails_at_seven()
-    ensures { DeviceFails base base_draws (replicate 10 0 ∷ []) (seen_after 7 9) 4 }
+    ensures { DeviceFails base base_draws (replicate 10 0 ∷ []) (seen_at_fault 7 9) 4 }
 {}
 
 // Access 11 is the first read of the compression. Its block has one record and no dummy; the tail of target 1 has none.

@@ -2,7 +2,7 @@
 
 ghost use Rattle.std.specs.Prelude.{◌≡◌, ℕ, ◌<◌, ◌≤◌, ◌⊎◌, true, false, Some, List, length, All};
 ghost use Rattle.esa_ending.specs.Endings.{Succeeds, ComesOut, Overflows};
-ghost use Rattle.esa_ending.specs.Seen.{Seen, stored, SameTargets, SameOrders};
+ghost use Rattle.esa_ending.specs.Seen.{Seen, SameTargets, SameOrders};
 ghost use Rattle.esa_params.specs.Sizes.{Sizes};
 ghost use Rattle.esa_spec.specs.Completion.{all_finished, completions};
 ghost use Rattle.esa_spec.specs.Draws.{Draw};
@@ -13,16 +13,16 @@ ghost use Rattle.esa_spec.specs.declared.event.Verdict.{Verdict};
 
 /// Two runs of the same sizes and turns, whose draws agree on the targets of the attempts that there are: where nothing
 /// failed both succeed in the same attempt, or both overflow with the same failures, and they make the same accesses
-/// and store the same turns. No run can do both.
+/// and store the same history. No run can do both.
 pub fn runs_agree()
     ensures success { (p : Sizes) (ds es : ℕ → Draw) (hs : List (List ℕ)) (seen other : Seen) (a e : ℕ)
         → ((x : ℕ) → x < length hs → SameTargets p (ds x) (es x))
         → Succeeds p ds hs seen a → Succeeds p es hs other e
-        → (a ≡ e) × (seen.trace ≡ other.trace) × (stored p seen ≡ stored p other) }
+        → (a ≡ e) × (seen.trace ≡ other.trace) × (seen.history ≡ other.history) }
     ensures overflow { (p : Sizes) (ds es : ℕ → Draw) (hs : List (List ℕ)) (seen other : Seen) (failures others : List Verdict)
         → ((x : ℕ) → x < length hs → SameTargets p (ds x) (es x))
         → Overflows p ds hs seen failures → Overflows p es hs other others
-        → (failures ≡ others) × (seen.trace ≡ other.trace) × (stored p seen ≡ stored p other) }
+        → (failures ≡ others) × (seen.trace ≡ other.trace) × (seen.history ≡ other.history) }
     ensures not_both { (p : Sizes) (ds es : ℕ → Draw) (hs : List (List ℕ)) (seen other : Seen) (a : ℕ) (failures : List Verdict)
         → ((x : ℕ) → x < length hs → SameTargets p (ds x) (es x))
         → Succeeds p ds hs seen a → Overflows p es hs other failures → ⊥ }

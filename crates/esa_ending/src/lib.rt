@@ -1,9 +1,9 @@
 //! How a run ends: for each ending a record of what is seen, and the laws that follow.
 //!
 //! The definitions of `specs/` say, of a run that succeeded, overflowed, met a fault of the device, a tampered block or
-//! a fault of the batch file, which accesses and which history are stored, and in which order the records come out.
-//! Each law is what a function with an empty body ensures. This crate stands on the definitions of a shuffle and their
-//! laws alone, and takes no memory.
+//! a fault of the batch file, which accesses and which history are stored, which count of faults rose, and in which order
+//! the records come out. Each law is what a function with an empty body ensures. This crate stands on the definitions of
+//! a shuffle and their laws, and on what `esa_outside` calls the rise of a count. It takes no memory.
 #![tactic(auto)]
 
 #[cfg(test)]

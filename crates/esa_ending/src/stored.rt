@@ -2,7 +2,7 @@
 
 ghost use Rattle.std.specs.Prelude.{◌≡◌, ℕ, ◌+◌, ◌<◌, true, Some, List, [], ◌++◌, length, map, take};
 ghost use Rattle.esa_ending.specs.Endings.{Succeeds, Overflows, IsCutAt, BatchFails};
-ghost use Rattle.esa_ending.specs.Seen.{Seen, stored, Begins, EndsWith, AreCut, verdict_in};
+ghost use Rattle.esa_ending.specs.Seen.{Seen, Rises, Stays, IsCalm, stored, HasHistory, Begins, EndsWith, AreCut, verdict_in};
 ghost use Rattle.esa_params.specs.Sizes.{Sizes, below};
 ghost use Rattle.esa_params.specs.declared.slot.Access.{Access};
 ghost use Rattle.esa_spec.specs.Draws.{Draw};
@@ -34,16 +34,17 @@ pub fn stored_turns_suffice()
 /// Who knows the accesses by the stored turns, as the shuffler does, knows how the run ended: in success once the
 /// output was scanned twice, in an overflow, or cut short at an access or in the load.
 pub fn endings_of_stored_turns()
-    ensures success { (p : Sizes) (ds : ℕ → Draw) (hs : List (List ℕ)) (seen : Seen) (a : ℕ) → a < p.attempts
-        → stored p seen ≡ take (a + 1) hs → good_attempt p ds 0 (stored p seen) ≡ Some a
+    ensures success { (p : Sizes) (ds : ℕ → Draw) (hs : List (List ℕ)) (seen : Seen) (a : ℕ) → HasHistory p seen
+        → IsCalm seen → a < p.attempts → stored p seen ≡ take (a + 1) hs → good_attempt p ds 0 (stored p seen) ≡ Some a
         → seen.trace ≡ shuffle_trace p ds (stored p seen) ++ (scan p a ++ scan p a) → Succeeds p ds hs seen a }
-    ensures overflow { (p : Sizes) (ds : ℕ → Draw) (hs : List (List ℕ)) (seen : Seen) → length hs ≡ p.attempts
-        → stored p seen ≡ hs → all_failed p ds 0 (stored p seen) ≡ true → seen.trace ≡ shuffle_trace p ds (stored p seen)
+    ensures overflow { (p : Sizes) (ds : ℕ → Draw) (hs : List (List ℕ)) (seen : Seen) → HasHistory p seen
+        → IsCalm seen → length hs ≡ p.attempts → stored p seen ≡ hs → all_failed p ds 0 (stored p seen) ≡ true → seen.trace ≡ shuffle_trace p ds (stored p seen)
         → Overflows p ds hs seen (map (verdict_in p ds hs) (below p.attempts)) }
-    ensures cut { (p : Sizes) (ds : ℕ → Draw) (hs : List (List ℕ)) (seen : Seen) (access : Access) → AreCut (stored p seen) hs
-        → EndsWith seen.trace access → Begins seen.trace (trace p ds (stored p seen)) → IsCutAt p ds hs seen access }
-    ensures cut_in_shuffle { (p : Sizes) (ds : ℕ → Draw) (hs : List (List ℕ)) (seen : Seen) (access : Access) → AreCut (stored p seen) hs
-        → EndsWith seen.trace access → Begins seen.trace (shuffle_trace p ds (stored p seen)) → IsCutAt p ds hs seen access }
-    ensures cut_in_load { (p : Sizes) (seen : Seen) → stored p seen ≡ [] → Begins seen.trace (load p) → length seen.trace < p.b
+    ensures cut { (p : Sizes) (ds : ℕ → Draw) (hs : List (List ℕ)) (seen : Seen) (access : Access) → HasHistory p seen
+        → AreCut (stored p seen) hs → EndsWith seen.trace access → Begins seen.trace (trace p ds (stored p seen)) → IsCutAt p ds hs seen access }
+    ensures cut_in_shuffle { (p : Sizes) (ds : ℕ → Draw) (hs : List (List ℕ)) (seen : Seen) (access : Access) → HasHistory p seen
+        → AreCut (stored p seen) hs → EndsWith seen.trace access → Begins seen.trace (shuffle_trace p ds (stored p seen)) → IsCutAt p ds hs seen access }
+    ensures cut_in_load { (p : Sizes) (seen : Seen) → HasHistory p seen → Rises seen.batch → Stays seen.device
+        → stored p seen ≡ [] → Begins seen.trace (load p) → length seen.trace < p.b
         → BatchFails p seen (length seen.trace) }
 {}

@@ -64,6 +64,7 @@ pub drained_none : {V : Type 0} (faults : V → ℕ) (a : ℕ) (f : Parts V) →
 drained_none faults a f = record {
   few = λ i i_in. absurd (omega arith);
   others = refl;
+  empty = λ i i_in. absurd (omega arith);
   waits = λ i behind. refl;
   trace = sym (append-nil f.recorder.trace);
   room = omega arith;
@@ -72,6 +73,12 @@ drained_none faults a f = record {
   stored = λ i i_in. absurd (omega arith);
 }
 
+-- a queue that was emptied is empty, be it there or not
+emptied_at : (queues : List (List Item)) (t : ℕ) → get_or (set queues t []) t [] ≡ []
+emptied_at [] t = refl
+emptied_at (queue ∷ queues) zero = refl
+emptied_at (queue ∷ queues) (suc t) = emptied_at queues t
+
 -- where no queue is longer than a tail, none is left too long
 pub none_left : {V : Type 0} (old : Parts V) (d : Draw) (o : List ℕ) → ((i : ℕ) → i < old.plan.b → length (queue_at old.stash i) ≡ backlog old.plan d o old.plan.b i)
     → (n i : ℕ) → n ≤ old.plan.b → i < n → ((j : ℕ) → j < n → length (queue_at old.stash j) ≤ old.plan.k) → is_left old.plan d o i ≡ false
@@ -79,6 +86,26 @@ none_left old d o lengths n i within i_in few =
     le-ltb old.plan.k (backlog old.plan d o old.plan.b i) (subst (λ (m : ℕ). m ≤ old.plan.k) (lengths i (omega arith)) (few i i_in))
 
 module _ {V : Type 0} (told : V → Option (List (List ℕ))) (faults : V → ℕ) (last_call : V → Option (Op × ℕ)) (a t : ℕ) (old : Parts V) where
+  -- when the write of a tail more is noted, also one that failed, and its queue is emptied
+  module _ (r : Recorded V) (s : Held) (before : AreDrained faults a t old (record old { recorder = r; stash = s })) where
+    still_stored : (log : List Carried) (bytes : Option (List ℕ)) → log ≡ r.log ++ record { access = written_tail old.plan a t; bytes = bytes } ∷ []
+        → (i : ℕ) → i < t → Took old.plan (number_of old.plan (at Tail i)) (tail_block old a i) log
+    still_stored log bytes longer i i_in =
+        subst (λ (l : List Carried). Took old.plan (number_of old.plan (at Tail i)) (tail_block old a i) l) (sym longer)
+        (took-elsewhere old.plan (number_of old.plan (at Tail i)) (tail_block old a i) r.log
+        (record { access = written_tail old.plan a t; bytes = bytes }) (λ same. omega arith) (before.stored i i_in))
+
+    all_empty : (i : ℕ) → i ≤ t → queue_at (without s t) i ≡ []
+    all_empty i i_in = elim (cases_lt i t) [
+      | inl inside ↦ get_or-set_other s.queues t i [] [] (λ same. omega arith) ∙ before.empty i inside
+      | inr behind ↦
+          let is : i ≡ t = omega arith in
+          subst (λ (n : ℕ). queue_at (without s t) n ≡ []) (sym is) (emptied_at s.queues t)
+    ]
+
+    still_waits : (i : ℕ) → t < i → queue_at (without s t) i ≡ queue_at old.stash i
+    still_waits i behind = get_or-set_other s.queues t i [] [] (λ same. omega arith) ∙ before.waits i (omega arith)
+
   -- one target more, where the floor has this recorder and this stash
   module _ (r s' : Recorded V) (s : Held) (done : Unit {0}) (before : AreDrained faults a t old (record old { recorder = r; stash = s }))
       (fits : length (queue_at s t) ≤ old.plan.k)
@@ -94,13 +121,6 @@ module _ {V : Type 0} (told : V → Option (List (List ℕ))) (faults : V → �
           (took-written old.plan (sealed_records old.plan old.run (at Tail t) a old.plan.k (queue_at s t)) r.log
           (record { access = written_tail old.plan a t; bytes = Some (sealed_records old.plan old.run (at Tail t) a old.plan.k (queue_at s t)) }) refl refl))
 
-      earlier : (i : ℕ) → i < t → Took old.plan (number_of old.plan (at Tail i)) (tail_block old a i) s'.log
-      earlier i i_in =
-          subst (λ (l : List Carried). Took old.plan (number_of old.plan (at Tail i)) (tail_block old a i) l) (sym written.recorded.log)
-          (took-elsewhere old.plan (number_of old.plan (at Tail i)) (tail_block old a i) r.log
-          (record { access = written_tail old.plan a t; bytes = Some (sealed_records old.plan old.run (at Tail t) a old.plan.k (queue_at s t)) })
-          (λ same. omega arith) (before.stored i i_in))
-
       pub drained_step : AreDrained faults a (t + 1) old (record old { recorder = s'; stash = without s t })
       drained_step = record {
         few = λ i i_in. elim (cases_lt i t) [
@@ -110,7 +130,8 @@ module _ {V : Type 0} (told : V → Option (List (List ℕ))) (faults : V → �
               subst (λ (n : ℕ). length (queue_at old.stash n) ≤ old.plan.k) (sym is) (subst (λ (q : List Item). length q ≤ old.plan.k) same_queue fits)
         ];
         others = refl;
-        waits = λ i behind. get_or-set_other s.queues t i [] [] (λ same. omega arith) ∙ before.waits i (omega arith);
+        empty = λ i i_in. all_empty r s before i (omega arith);
+        waits = λ i behind. still_waits r s before i (omega arith);
         trace =
             written.recorded.trace
             ∙ ap (λ (l : List Access). l ++ written_tail old.plan a t ∷ []) before.trace
@@ -120,7 +141,7 @@ module _ {V : Type 0} (told : V → Option (List (List ℕ))) (faults : V → �
         ready = written.recorded.plan ∙ before.ready;
         calm = written.answer ∙ before.calm;
         stored = λ i i_in. elim (cases_lt i t) [
-          | inl inside ↦ earlier i inside
+          | inl inside ↦ still_stored r s before s'.log (Some (sealed_records old.plan old.run (at Tail t) a old.plan.k (queue_at s t))) written.recorded.log i inside
           | inr behind ↦
               let is : i ≡ t = omega arith in
               subst (λ (n : ℕ). Took old.plan (number_of old.plan (at Tail n)) (tail_block old a n) s'.log) (sym is) here
@@ -142,18 +163,23 @@ module _ {V : Type 0} (told : V → Option (List (List ℕ))) (faults : V → �
   -- a write that fails
   fails_from : (r : Recorded V) (s : Held) (new : Parts V) (tails noted : List ℕ) (number : ℕ) → AreDrained faults a t old (record old { recorder = r; stash = s })
       → DrainAnswer {T = Unit {0}} told faults last_call a t (record old { recorder = r; stash = s }) new tails noted (Err (Fault (Device number))) → FailsAt faults a t number old new
-  fails_from r s new tails noted number before answer = record {
-    slot = answer.3.answer.0;
-    trace =
-        answer.3.recorded.trace
-        ∙ ap (λ (l : List Access). l ++ written_tail old.plan a t ∷ []) before.trace
-        ∙ append_assoc old.recorder.trace (map (written_tail old.plan a) (below t)) (written_tail old.plan a t ∷ [])
-        ∙ ap (λ (l : List Access). old.recorder.trace ++ l) (sym (map-range_with_len_more (written_tail old.plan a) 0 t t (omega arith)));
-    room = let one = before.room in let other = answer.3.recorded.room in omega (arith, one, other);
-    ready = answer.3.recorded.plan ∙ before.ready;
-    others = answer.1 ∙ ap (λ (h : Held). record old { recorder = new.recorder; stash = h }) (sym (ap (λ (f : Parts V). f.stash) answer.1));
-    cause = subst (λ (n : ℕ). Rose n (faults new.recorder.device)) before.calm answer.3.answer.1;
-  }
+  fails_from r s new tails noted number before answer =
+      let stash : new.stash ≡ without s t = ap (λ (f : Parts V). f.stash) answer.1 in
+      record {
+        slot = answer.3.answer.0;
+        trace =
+            answer.3.recorded.trace
+            ∙ ap (λ (l : List Access). l ++ written_tail old.plan a t ∷ []) before.trace
+            ∙ append_assoc old.recorder.trace (map (written_tail old.plan a) (below t)) (written_tail old.plan a t ∷ [])
+            ∙ ap (λ (l : List Access). old.recorder.trace ++ l) (sym (map-range_with_len_more (written_tail old.plan a) 0 t t (omega arith)));
+        room = let one = before.room in let other = answer.3.recorded.room in omega (arith, one, other);
+        ready = answer.3.recorded.plan ∙ before.ready;
+        others = answer.1 ∙ ap (λ (h : Held). record old { recorder = new.recorder; stash = h }) (sym stash);
+        stored = still_stored r s before new.recorder.log None answer.3.recorded.log;
+        empty = λ x x_in. ap (λ (h : Held). queue_at h x) stash ∙ all_empty r s before x x_in;
+        waits = λ x behind. ap (λ (h : Held). queue_at h x) stash ∙ still_waits r s before x behind;
+        cause = subst (λ (n : ℕ). Rose n (faults new.recorder.device)) before.calm answer.3.answer.1;
+      }
 
   -- how the drain ends at this target
   module _ (d : Draw) (o : List ℕ) (inside : t < old.plan.b) (lengths : (i : ℕ) → i < old.plan.b → length (queue_at old.stash i) ≡ backlog old.plan d o old.plan.b i) where

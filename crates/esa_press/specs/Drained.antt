@@ -1,5 +1,5 @@
 -- The drain of a target: what it makes of the floor and of the press.
-use Rattle.std.specs.Prelude.{◌≡◌, ℕ, ◌+◌, ◌<◌, ◌≤◌, List, ◌++◌, length, map, find, slice_set, Option, Some, None, Result, Ok, Err}
+use Rattle.std.specs.Prelude.{◌≡◌, ℕ, ◌+◌, ◌<◌, ◌≤◌, List, [], ◌++◌, length, map, find, slice_set, Option, Some, None, Result, Ok, Err}
 use Rattle.esa_device.specs.Logs.{Took}
 use Rattle.esa_device.specs.Recording.{Recorded}
 use Rattle.esa_floor.specs.Parts.{Parts}
@@ -38,10 +38,12 @@ DrainAnswer told faults last_call attempt i old new tails noted (Err (Fault faul
     (length (queue_at old.stash i) ≤ old.plan.k) × (new ≡ spilled old i new.recorder) × (noted ≡ slice_set tails i (length (queue_at old.stash i)))
     × IsWritten {T = Unit {0}} told faults last_call old.plan (at Tail i) attempt (tail_block old attempt i) old.recorder new.recorder (Err fault)
 
--- the first t targets are drained: none has left more than a tail, and their tails are written. Nothing else has changed
+-- the first t targets are drained: none had more left than a tail, their tails are written, and nothing waits for them.
+-- Nothing else has changed
 pub record AreDrained {V : Type 0} (faults : V → ℕ) (attempt t : ℕ) (old new : Parts V) : Type 0 where
   pub few : (i : ℕ) → i < t → length (queue_at old.stash i) ≤ old.plan.k
   pub others : new ≡ record old { recorder = new.recorder; stash = new.stash }
+  pub empty : (i : ℕ) → i < t → queue_at new.stash i ≡ []
   pub waits : (i : ℕ) → t ≤ i → queue_at new.stash i ≡ queue_at old.stash i
   pub trace : new.recorder.trace ≡ old.recorder.trace ++ map (written_tail old.plan attempt) (below t)
   pub room : old.recorder.room ≡ new.recorder.room + t
@@ -49,13 +51,17 @@ pub record AreDrained {V : Type 0} (faults : V → ℕ) (attempt t : ℕ) (old n
   pub calm : faults new.recorder.device ≡ faults old.recorder.device
   pub stored : (i : ℕ) → i < t → Took old.plan (number_of old.plan (at Tail i)) (tail_block old attempt i) new.recorder.log
 
--- a write of the tail of the target i failed, which is the last access, where the targets before it are drained
+-- a write of the tail of the target i failed, which is the last access, where the targets before it are drained: their
+-- tails are written, and nothing waits for them. Nor does anything wait for the target i
 pub record FailsAt {V : Type 0} (faults : V → ℕ) (attempt i number : ℕ) (old new : Parts V) : Type 0 where
   pub slot : number ≡ number_of old.plan (at Tail i)
   pub trace : new.recorder.trace ≡ old.recorder.trace ++ map (written_tail old.plan attempt) (below (i + 1))
   pub room : old.recorder.room ≡ new.recorder.room + (i + 1)
   pub ready : new.recorder.plan ≡ old.recorder.plan
   pub others : new ≡ record old { recorder = new.recorder; stash = new.stash }
+  pub stored : (x : ℕ) → x < i → Took old.plan (number_of old.plan (at Tail x)) (tail_block old attempt x) new.recorder.log
+  pub empty : (x : ℕ) → x ≤ i → queue_at new.stash x ≡ []
+  pub waits : (x : ℕ) → i < x → queue_at new.stash x ≡ queue_at old.stash x
   pub cause : Rose (faults old.recorder.device) (faults new.recorder.device)
 
 -- how a drain ends, by the target for which too much is left: the tails are written up to the one before it. A write may fail

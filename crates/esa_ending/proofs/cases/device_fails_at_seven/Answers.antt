@@ -1,4 +1,4 @@
-use Rattle.std.proofs.Common.{[], ◌∷◌, take, drop, refl}
+use Rattle.std.proofs.Common.{[], ◌∷◌, take, drop, refl, arith}
 use Rattle.esa_params.specs.declared.slot.Op.TheVariants.{Write}
 use Rattle.esa_params.specs.declared.slot.Region.TheVariants.{Mid}
 use Rattle.esa_spec.specs.Cases.{accessed, base_trace}
@@ -7,6 +7,14 @@ use Rattle.esa_ending.proofs.cases.device_fails_at_seven.Goals as goal
 pub returns : goal.returns
 returns c = record {
   access = accessed Write Mid 0 2 177 4;
-  cut = record { front = (drop 7 base_trace, refl); last = (take 6 base_trace, refl); turns = (0 ∷ [], refl); of_stored = ([], refl) };
+  cut = record {
+    front = (drop 7 base_trace, refl);
+    last = (take 6 base_trace, refl);
+    turns = (0 ∷ [], refl);
+    of_stored = ([], refl);
+    history = refl;
+  };
   slot = refl;
+  cause = omega arith;
+  read = refl;
 }

@@ -12,8 +12,10 @@ returns-clause-tampered c = record {
     last = (take 10 base_trace, refl);
     turns = ([], refl);
     of_stored = (drop 11 base_trace, refl);
+    history = refl;
   };
   slot = refl;
   reads = refl;
   closed = refl;
+  calm = (refl, refl);
 }

@@ -16,5 +16,12 @@ pub returns-clause-cut_in_shuffle : goal.returns-clause-cut_in_shuffle
 returns-clause-cut_in_shuffle c = cut-in-shuffle
 
 pub returns-clause-cut_in_load : goal.returns-clause-cut_in_load
-returns-clause-cut_in_load c = λ p seen none front short.
-    record { there = short; written = image-front (written_input p) p.b seen.trace front; turns = none }
+returns-clause-cut_in_load c = λ p seen history cause device none front short.
+    record {
+      there = short;
+      written = image-front (written_input p) p.b seen.trace front;
+      turns = none;
+      history = history;
+      cause = cause;
+      device = device;
+    }
