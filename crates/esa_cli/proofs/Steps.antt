@@ -14,7 +14,7 @@ use Rattle.esa_command.specs.Taking.{job_file, keys_file}
 use Rattle.esa_command.specs.Work.{Work}
 use Rattle.esa_command.proofs.Composition.{judged_at_once}
 use Rattle.esa_command.proofs.Ending.{ends_stop}
-use Rattle.esa_encoding.specs.Encode.{whole_job, reports_file, encode_steps, encode_asked, encode_keyed, encoded_work}
+use Rattle.esa_encoding.specs.Encode.{has_shares, reports_file, encode_steps, encode_asked, encode_keyed, encoded_work}
 use Rattle.esa_encoding.specs.Generate.{generated_by}
 use Rattle.esa_shuffling.specs.Batch.{gather_steps, gathered_work}
 use Rattle.esa_shuffling.specs.Plan.{plan_steps, plan_asked, plan_turned, foretold}
@@ -38,8 +38,8 @@ well_then (missing source) next work each is = cc
 encode_well : (crew : Bool) (name : List ℕ) (read : Reads) (work : Work) → encode_steps crew name read ≡ accepted work → work.ended ≡ status.Ok
 unfolding encode_steps
 encode_well crew name read work is =
-    well_then (whole_job crew name read) (encode_asked read) work
-    (λ job. well_then (keys_file command.Encode false job read) (encode_keyed job read) work
+    well_then (job_file command.Encode crew name read) (encode_asked read) work
+    (λ job. well_then (keys_file command.Encode (has_shares job) job read) (encode_keyed job read) work
     (λ ring. well_then (reports_file job ring read) (encoded_work job) work (λ made. well_made _ work refl))) is
 
 analyse_well : (crew : Bool) (name : List ℕ) (read : Reads) (work : Work) → analyse_steps crew name read ≡ accepted work → work.ended ≡ status.Ok
