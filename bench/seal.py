@@ -6,7 +6,7 @@
 
 prints an inner envelope, or the outer one that a submission carries, as lines of 32 bytes that a case takes as they
 are. A master has 64 hexadecimal digits; 0 stands for zero bytes. With --epoch N the form is Two, and the masters are
-those of that epoch. HMAC and SHA-256 are those of Python's library; ChaCha20 stands in demo/make_forward.py.
+those of that epoch. With --shares T and --share KEY a share of the value is sealed in place of it. HMAC and SHA-256 are those of Python's library; ChaCha20 stands in demo/make_forward.py.
 """
 
 import argparse
@@ -31,6 +31,29 @@ def report(value, epoch):
     return (struct.pack(">H", len(value)) + value).ljust(length, b"\0")
 
 
+def product(a, b):
+    """The product of two elements of the field of 256, bit by bit."""
+    made = 0
+    for bit in range(8):
+        made ^= a * (b >> bit & 1)
+        a = a << 1 ^ (a >> 7) * 0x11b
+    return made
+
+
+def share_of(value, shares, key, nonce):
+    """The share record of a value: polynomials whose coefficients come from the key, at the point of the nonce."""
+    if not value:
+        return value
+    point = 1 + nonce % 255
+    share = bytearray(value)
+    power = 1
+    for k in range(1, shares):
+        power = product(power, point)
+        for y in range(len(value)):
+            share[y] ^= product(mac(key, bytes([k, y // 32]) + value)[y % 32], power)
+    return bytes([0xe5, shares, point]) + hashlib.sha256(value).digest()[:16] + bytes(share)
+
+
 def main():
     parser = argparse.ArgumentParser(description=__doc__.splitlines()[0])
     parser.add_argument("kind", choices=["inner", "outer"])
@@ -39,10 +62,14 @@ def main():
     parser.add_argument("--outer", default="0")
     parser.add_argument("--nonce", type=int, required=True)
     parser.add_argument("--epoch", type=int)
+    parser.add_argument("--shares", type=int, help="how many shares give the value")
+    parser.add_argument("--share", default="0", help="the key that shares are made from")
     words = parser.parse_args()
     *crowd, value = [text.encode() for text in words.texts]
     if len(crowd) != (words.kind == "outer"):
         parser.error("an inner envelope is of a value, and an outer one of a crowd and a value")
+    if words.shares:
+        value = share_of(value, words.shares, master_of(words.share, None), words.nonce)
     envelope = seal(master_of(words.inner, words.epoch), b"inner", words.nonce, report(value, words.epoch))
     if crowd:
         plain = hashlib.sha256(crowd[0]).digest() + envelope

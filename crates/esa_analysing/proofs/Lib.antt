@@ -1,3 +1,4 @@
 mod Placing
 mod Counts
 mod Upgrades
+mod Recovering

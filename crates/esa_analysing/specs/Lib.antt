@@ -5,3 +5,5 @@ pub mod Loaded
 pub mod RowText
 pub mod Histogram
 pub mod Upgrade
+pub mod Recover
+pub mod RecoverTaken

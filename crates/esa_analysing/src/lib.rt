@@ -1,5 +1,5 @@
 //! The commands of the role that analyses: `analyse`, by which a forward file becomes a database, `histogram`, which
-//! prints a database, and `upgrade`, which writes it in version 2.
+//! prints a database, `upgrade`, which writes it in version 2, and `recover`, which puts its shares together.
 #![tactic(auto)]
 
 mod analyse_command;
@@ -7,6 +7,7 @@ mod forwarding;
 mod histogram_command;
 mod lines;
 mod loading;
+mod recover_command;
 mod row_line;
 mod upgrade_command;
 
@@ -14,4 +15,5 @@ pub use analyse_command::analyse;
 pub use forwarding::take_forward;
 pub use histogram_command::histogram;
 pub use loading::take_database;
+pub use recover_command::recover;
 pub use upgrade_command::upgrade;

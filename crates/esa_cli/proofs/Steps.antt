@@ -1,9 +1,10 @@
 -- What the steps of each command come to.
-use Rattle.std.proofs.Common.{◌≡◌, ℕ, Bool, false, List, refl, sym, ap, ◌∙◌, arith}
+use Rattle.std.proofs.Common.{◌≡◌, ℕ, Bool, true, false, cond, List, refl, sym, ap, ◌∙◌, arith}
 use Rattle.esa_lists.specs.Files.{Files}
 use Rattle.esa_job.specs.declared.command.Command.{Command}
 use Rattle.esa_job.specs.declared.command.Command.TheVariants as command
-use Rattle.esa_refusal.specs.declared.refusal.Refusal.TheVariants.{NotBuilt}
+use Rattle.esa_refusal.specs.declared.refusal.Refusal.{Refusal}
+use Rattle.esa_refusal.specs.declared.refusal.Refusal.TheVariants.{NotBuilt, SharesSum}
 use Rattle.esa_refusal.specs.declared.status.End.TheVariants.{Stopped}
 use Rattle.esa_refusal.specs.declared.status.Status.TheVariants as status
 use Rattle.esa_refusal.specs.declared.stop.Stop.TheVariants as stop
@@ -14,7 +15,7 @@ use Rattle.esa_command.specs.Taking.{job_file, keys_file}
 use Rattle.esa_command.specs.Work.{Work}
 use Rattle.esa_command.proofs.Composition.{judged_at_once}
 use Rattle.esa_command.proofs.Ending.{ends_stop}
-use Rattle.esa_encoding.specs.Encode.{whole_job, reports_file, encode_steps, encode_asked, encode_keyed, encoded_work}
+use Rattle.esa_encoding.specs.Encode.{has_shares, reports_file, encode_steps, encode_asked, encode_keyed, encoded_work}
 use Rattle.esa_encoding.specs.Generate.{generated_by}
 use Rattle.esa_shuffling.specs.Batch.{gather_steps, gathered_work}
 use Rattle.esa_shuffling.specs.Plan.{plan_steps, plan_asked, plan_turned, foretold}
@@ -22,6 +23,7 @@ use Rattle.esa_shuffling.specs.Shuffle.{turns_file, coins_file}
 use Rattle.esa_analysing.specs.Analyse.{forward_file, analyse_steps, analyse_asked, analyse_keyed, analysed}
 use Rattle.esa_analysing.specs.Histogram.{histogram_work}
 use Rattle.esa_analysing.specs.Loading.{load_steps}
+use Rattle.esa_analysing.specs.Recover.{recovered_by, recover_work}
 use Rattle.esa_analysing.specs.Upgrade.{upgrade_work}
 use Rattle.esa_cli.specs.Plain.{is_built, steps_of}
 
@@ -35,11 +37,16 @@ well_then (accepted value) next work each is = each value is
 well_then (refused refusal) next work each is = cc
 well_then (missing source) next work each is = cc
 
+-- where it isn't refused
+well_unless : (past : Bool) (refusal : Refusal) (made work : Work) → made.ended ≡ status.Ok → cond past (refused refusal) (accepted made) ≡ accepted work → work.ended ≡ status.Ok
+well_unless true refusal made work well is = cc
+well_unless false refusal made work well is = well_made made work well is
+
 encode_well : (crew : Bool) (name : List ℕ) (read : Reads) (work : Work) → encode_steps crew name read ≡ accepted work → work.ended ≡ status.Ok
 unfolding encode_steps
 encode_well crew name read work is =
-    well_then (whole_job crew name read) (encode_asked read) work
-    (λ job. well_then (keys_file command.Encode false job read) (encode_keyed job read) work
+    well_then (job_file command.Encode crew name read) (encode_asked read) work
+    (λ job. well_then (keys_file command.Encode (has_shares job) job read) (encode_keyed job read) work
     (λ ring. well_then (reports_file job ring read) (encoded_work job) work (λ made. well_made _ work refl))) is
 
 analyse_well : (crew : Bool) (name : List ℕ) (read : Reads) (work : Work) → analyse_steps crew name read ≡ accepted work → work.ended ≡ status.Ok
@@ -67,7 +74,7 @@ steps_well crew (command.Relay, name) read work is = cc
 steps_well crew (command.Analyse, name) read work is = analyse_well crew name read work is
 steps_well crew (command.Histogram, name) read work is = well_then (load_steps command.Histogram crew name read) (λ all. accepted (histogram_work all)) work (λ all. well_made _ work refl) is
 steps_well crew (command.Upgrade, name) read work is = well_then (load_steps command.Upgrade crew name read) (λ all. accepted (upgrade_work all)) work (λ all. well_made _ work refl) is
-steps_well crew (command.Recover, name) read work is = cc
+steps_well crew (command.Recover, name) read work is = well_then (load_steps command.Recover crew name read) recovered_by work (λ all. well_unless _ SharesSum (recover_work all) work refl) is
 steps_well crew (command.Plan, name) read work is = plan_well crew name read work is
 steps_well crew (command.Audit, name) read work is = cc
 
@@ -84,7 +91,7 @@ not_built crew (command.Relay, name) is read = refl
 not_built crew (command.Analyse, name) is read = cc
 not_built crew (command.Histogram, name) is read = cc
 not_built crew (command.Upgrade, name) is read = cc
-not_built crew (command.Recover, name) is read = refl
+not_built crew (command.Recover, name) is read = cc
 not_built crew (command.Plan, name) is read = cc
 not_built crew (command.Audit, name) is read = refl
 
@@ -93,17 +100,17 @@ ends_unbuilt crew call cabinet printer is =
     ends_stop (λ (work : Work). work) (steps_of crew call) cabinet cabinet printer (stop.Refused (NotBuilt call.0)) (status.Refused (NotBuilt call.0)) refl
     (judged_at_once 0 6 (λ (work : Work). work) (steps_of crew call) cabinet (NotBuilt call.0) (omega arith) (not_built crew call is) tt)
 
-pub others_unbuilt : (c : Command) → (c ≡ command.Gen → ⊥) → (c ≡ command.Encode → ⊥) → (c ≡ command.Batch → ⊥) → (c ≡ command.Analyse → ⊥) → (c ≡ command.Histogram → ⊥) → (c ≡ command.Upgrade → ⊥) → (c ≡ command.Plan → ⊥) → is_built c ≡ false
-others_unbuilt command.Gen g e b a h u p = absurd (g refl)
-others_unbuilt command.Encode g e b a h u p = absurd (e refl)
-others_unbuilt command.Batch g e b a h u p = absurd (b refl)
-others_unbuilt command.Intake g e b a h u p = refl
-others_unbuilt command.Shuffle g e b a h u p = refl
-others_unbuilt command.Run g e b a h u p = refl
-others_unbuilt command.Relay g e b a h u p = refl
-others_unbuilt command.Analyse g e b a h u p = absurd (a refl)
-others_unbuilt command.Histogram g e b a h u p = absurd (h refl)
-others_unbuilt command.Upgrade g e b a h u p = absurd (u refl)
-others_unbuilt command.Recover g e b a h u p = refl
-others_unbuilt command.Plan g e b a h u p = absurd (p refl)
-others_unbuilt command.Audit g e b a h u p = refl
+pub others_unbuilt : (c : Command) → (c ≡ command.Gen → ⊥) → (c ≡ command.Encode → ⊥) → (c ≡ command.Batch → ⊥) → (c ≡ command.Analyse → ⊥) → (c ≡ command.Histogram → ⊥) → (c ≡ command.Upgrade → ⊥) → (c ≡ command.Recover → ⊥) → (c ≡ command.Plan → ⊥) → is_built c ≡ false
+others_unbuilt command.Gen g e b a h u r p = absurd (g refl)
+others_unbuilt command.Encode g e b a h u r p = absurd (e refl)
+others_unbuilt command.Batch g e b a h u r p = absurd (b refl)
+others_unbuilt command.Intake g e b a h u r p = refl
+others_unbuilt command.Shuffle g e b a h u r p = refl
+others_unbuilt command.Run g e b a h u r p = refl
+others_unbuilt command.Relay g e b a h u r p = refl
+others_unbuilt command.Analyse g e b a h u r p = absurd (a refl)
+others_unbuilt command.Histogram g e b a h u r p = absurd (h refl)
+others_unbuilt command.Upgrade g e b a h u r p = absurd (u refl)
+others_unbuilt command.Recover g e b a h u r p = absurd (r refl)
+others_unbuilt command.Plan g e b a h u r p = absurd (p refl)
+others_unbuilt command.Audit g e b a h u r p = refl

@@ -19,6 +19,7 @@ use Rattle.esa_shuffling.specs.Batch.{batch_steps}
 use Rattle.esa_shuffling.specs.Plan.{plan_steps}
 use Rattle.esa_analysing.specs.Analyse.{analyse_steps}
 use Rattle.esa_analysing.specs.Histogram.{histogram_steps}
+use Rattle.esa_analysing.specs.Recover.{recover_steps}
 use Rattle.esa_analysing.specs.Upgrade.{upgrade_steps}
 
 -- the commands that are built
@@ -29,6 +30,7 @@ is_built command.Batch = true
 is_built command.Analyse = true
 is_built command.Histogram = true
 is_built command.Upgrade = true
+is_built command.Recover = true
 is_built command.Plan = true
 is_built _ = false
 
@@ -40,6 +42,7 @@ steps_of crew_allowed (command.Batch, name) = batch_steps crew_allowed name
 steps_of crew_allowed (command.Analyse, name) = analyse_steps crew_allowed name
 steps_of crew_allowed (command.Histogram, name) = histogram_steps crew_allowed name
 steps_of crew_allowed (command.Upgrade, name) = upgrade_steps crew_allowed name
+steps_of crew_allowed (command.Recover, name) = recover_steps crew_allowed name
 steps_of crew_allowed (command.Plan, name) = plan_steps crew_allowed name
 steps_of crew_allowed (command, name) = λ read. refused (NotBuilt command)
 

@@ -13,7 +13,7 @@ ghost use Rattle.esa_cli.specs.Explains.{IsExplained, EndCounted, IsComplete, Is
 ghost use Rattle.esa_cli.specs.Plain.{is_built, steps_of, IsUnbuilt, CallEnds, Runs};
 
 use crate::call::{Call, call_of};
-use esa_analysing::{analyse, histogram, upgrade};
+use esa_analysing::{analyse, histogram, recover, upgrade};
 use esa_command::tell;
 use esa_encoding::{encode, generate};
 use esa_job::Command;
@@ -41,6 +41,7 @@ fn run<K: Cabinet, P: Printer>(
         Command::Analyse => analyse(alloc, cabinet, printer, false, call.job),
         Command::Histogram => histogram(alloc, cabinet, printer, false, call.job),
         Command::Upgrade => upgrade(alloc, cabinet, printer, false, call.job),
+        Command::Recover => recover(alloc, cabinet, printer, false, call.job),
         Command::Plan => plan(alloc, cabinet, printer, false, call.job),
         command => End::Stopped(Status::Refused(Refusal::NotBuilt(command))),
     }

@@ -93,6 +93,7 @@ refusal_text (refusal.Line refused) = line_text refused
 refusal_text (refusal.Lines n) = numbered (codes "lines ") n
 refusal_text (refusal.Forward refused) = codes "forward " ++ forward_text refused
 refusal_text (refusal.Database refused) = codes "database " ++ database_text refused
+refusal_text refusal.SharesSum = codes "shares sum"
 refusal_text (refusal.NotBuilt command) = codes "not-built " ++ command_word command
 
 -- What is refused is wrong with what was given: no refusal says that memory is wanted, which is a status of its own.

@@ -47,6 +47,8 @@ pub enum Refusal {
     Forward(ForwardRefused),
     /// The database file breaks its format.
     Database(DbRefused),
+    /// The counts of a database and its number unopened add up to more than 4,294,967,295.
+    SharesSum,
     /// The command isn't built yet.
     NotBuilt(Command),
 }
@@ -69,6 +71,7 @@ pub fn add_refusal(line: &mut Line, refusal: &Refusal)
         Refusal::Lines { n } => add_numbered(line, "lines ", *n),
         Refusal::Forward(refused) => add_forward(line, refused),
         Refusal::Database(refused) => add_database(line, refused),
+        Refusal::SharesSum => line.word("shares sum"),
         Refusal::NotBuilt(command) => add_pair(line, "not-built ", command.word()),
     }
 }
