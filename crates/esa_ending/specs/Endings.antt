@@ -55,7 +55,7 @@ pub record DeviceFails (p : Sizes) (ds : ℕ → Draw) (hs : List (List ℕ)) (s
   pub slot : slot_number p access ≡ number
   -- its count of faults rose, and that of the batch file didn't
   pub cause : Rises seen.device
-  pub read : Stays seen.batch
+  pub batch : Stays seen.batch
 
 -- the last access is a read of the slot of this number, and the block that it gave doesn't open. `opens` says whether
 -- it opens for a slot, an attempt and a number of items before the dummies

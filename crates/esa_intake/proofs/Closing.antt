@@ -7,12 +7,14 @@ use Rattle.std.proofs.lemmas.List.{length-append, length-map, map-append, get_or
 use Rattle.std.proofs.lemmas.List.Elements.{All-head, All-tail}
 use Rattle.std.proofs.lemmas.List.Sorted.{All-permutation, IsPermutation-append_comm, IsPermutation-append_right, IsPermutation-map, IsPermutation-sym, IsPermutation-trans, sum_by-IsPermutation}
 use Rattle.std.proofs.lemmas.List.Sums.{sum_by-cons}
+use Rattle.crossbeam_queue.specs.Passes.{view}
+use Rattle.esa_params.specs.declared.form.Form.{Form}
 use Rattle.esa_intake.specs.declared.sealed.Sealed.{Sealed}
 use Rattle.esa_intake.specs.declared.hand.Hand.{Hand}
 use Rattle.esa_intake.specs.declared.hand.Closed.{Closed}
 use Rattle.esa_intake.specs.declared.intake.Sender.{Sender}
 use Rattle.esa_intake.specs.declared.intake.Taker.{Taker}
-use Rattle.esa_intake.specs.Keeping.{envelopes, put_by, TakerSees}
+use Rattle.esa_intake.specs.Keeping.{IsSealedOf, envelopes, put_by, TakerSees}
 use Rattle.esa_intake.specs.Standing.{number_of, put_of, senders_of, taken_of, numbers, closed_of, closed_of_taker, AreAll, KeepsEach, KeepsOrder, TakerRest}
 use Rattle.esa_intake.proofs.Counts.{seen-closed}
 
@@ -37,10 +39,11 @@ moved_back closed front sender whole before =
 pub seen_rest : (hand later : Hand) (rest left : List Sealed) → later ≡ record hand { taken = hand.taken ++ rest } → hand.put ≡ [] → IsPermutation (numbers hand.senders) (map (λ (c : Closed). c.number) hand.closed) → left ≡ [] → TakerSees later left
     → (log : List (ℕ × Sealed)) × (envelopes log ≡ hand.taken ++ rest) × All (λ (c : Closed). c.put ≡ put_by c.number log) hand.closed
     × ((f : Sealed → ℕ) → sum_by f (envelopes log) ≡ sum_by (λ (c : Closed). sum_by f c.put) hand.closed)
+    × All (IsSealedOf hand.form) (envelopes log)
 seen_rest hand later rest left is none all nothing sees =
     let now : Hand = record hand { taken = hand.taken ++ rest } in
     let here : TakerSees now [] = subst (λ (v : Hand × List Sealed). TakerSees v.0 v.1) (λ i. (is i, nothing i)) sees in
-    (here.0, here.1 ∙ append-nil (hand.taken ++ rest), here.3, seen-closed now [] here none all)
+    (here.0, here.1 ∙ append-nil (hand.taken ++ rest), here.3, seen-closed now [] here none all, here.5)
 
 number_back : (senders : List Sender) → map (λ (c : Closed). c.number) (map closed_of senders) ≡ map number_of senders
 number_back [] = refl
@@ -74,3 +77,8 @@ keeps_order taker now senders rest same back kept =
       kept.1 ∙ ap (λ taken. taken ++ rest) same,
       λ k d below. subst own (get_or-map closed_of senders k d (closed_of d) below) (each k (closed_of d) (omega (arith, length-map senders closed_of))),
     )
+
+pub keeps_form : (form : Form) (taker now : Taker) (rest : List Sealed) → taken_of now ≡ taken_of taker → (view now.pass).form ≡ form → TakerRest now rest → All (IsSealedOf form) (taken_of taker ++ rest)
+keeps_form form taker now rest same is kept =
+    subst (λ (f : Form). All (IsSealedOf f) (taken_of taker ++ rest)) is
+    (subst (All (IsSealedOf (view now.pass).form)) (kept.1 ∙ ap (λ taken. taken ++ rest) same) kept.4)

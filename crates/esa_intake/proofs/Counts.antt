@@ -4,7 +4,7 @@ use Rattle.std.specs.Prelude.{All, nat_lt}
 use Rattle.std.specs.List.{filter, sum_by}
 use Rattle.std.specs.List.Sorted.{IsPermutation}
 use Rattle.std.proofs.lemmas.List.Elements.{All-head, All-tail}
-use Rattle.std.proofs.lemmas.List.Sorted.{sum_by-IsPermutation}
+use Rattle.std.proofs.lemmas.List.Sorted.{IsPermutation-refl, sum_by-IsPermutation}
 use Rattle.std.proofs.lemmas.List.Sums.{sum_by-cons, sum_by-append}
 use Rattle.std.proofs.lemmas.List.{length-append, nil_from_length}
 use Rattle.std.proofs.lemmas.Bool.Decides.{nat_tests}
@@ -123,6 +123,12 @@ seen-closed hand waiting sees none all f = log-closed f hand.senders sees.0 hand
 length-sum : {X : Type 0} (xs : List X) → length xs ≡ sum_by (λ x. 1) xs
 length-sum [] = refl
 length-sum (x ∷ xs) = omega (arith, length-sum xs, sum_by-cons (λ x. 1) x xs)
+
+-- a log in which no number has put is empty
+pub none-put : (log : List (ℕ × Sealed)) → [] ≡ put_by 0 log → ((number : ℕ) → 1 ≤ number → put_by number log ≡ []) → envelopes log ≡ []
+none-put log own others =
+    nil_from_length (envelopes log)
+    (length-sum (envelopes log) ∙ log-closed (λ x. 1) 0 log [] (λ number past. others number (omega (arith, past))) own (λ k d below. absurd (omega arith)) (IsPermutation-refl []))
 
 pub nothing_left : (hand later : Hand) (waiting left : List Sealed) (taken rest : List Sealed) (sees : TakerSees hand waiting) (sees_later : TakerSees later left) → hand.put ≡ [] → later.put ≡ [] → IsPermutation (numbers hand.senders) (map (λ (c : Closed). c.number) hand.closed)
     → later.senders ≡ hand.senders → later.closed ≡ hand.closed → hand.taken ≡ taken → later.taken ≡ taken ++ rest → length waiting ≤ length rest → left ≡ []

@@ -1,17 +1,21 @@
 -- Each step of a pass keeps the rule.
 use Rattle.std.proofs.Common.{◌≡◌, ◌≢◌, ℕ, zero, suc, ◌+◌, ◌<◌, ◌≤◌, ◌==◌, true, false, true≢false, List, [], ◌∷◌, ◌++◌, length, set, get_or, sym, refl, ap, ◌∙◌, subst, ◌⊎◌, inl, inr, ⊎_elim, append_assoc, append-nil, arith}
+use Rattle.std.specs.Prelude.{All}
 use Rattle.std.specs.List.{filter}
 use Rattle.std.proofs.lemmas.List.{map-append, length-set, length-append}
-use Rattle.std.proofs.lemmas.List.Elements.{filter-append, All-push}
+use Rattle.std.proofs.lemmas.List.Elements.{filter-append, All-head, All-tail, All-push}
 use Rattle.std.proofs.lemmas.Bool.Decides.{nat_tests}
 use mathlib.Core.Option.{some, some-injective, some-ne-none}
 use lib.ListN.{get_elem?}
 use Rattle.crossbeam_queue.specs.Fifo.{Pushes, Pops, Forks, Merges, Learns}
 use Rattle.crossbeam_queue.proofs.Lists.{at_set, set_else}
+use Rattle.esa_params.specs.declared.form.Form.{Form}
+use Rattle.esa_params.specs.declared.form.Form.TheVariants.{One}
 use Rattle.esa_intake.specs.declared.sealed.Sealed.{Sealed}
 use Rattle.esa_intake.specs.declared.hand.Hand.{Hand}
 use Rattle.esa_intake.specs.declared.hand.Closed.{Closed}
-use Rattle.esa_intake.specs.Keeping.{envelopes, put_by, first, with_sender, new_sender, with_closed, spent, with_put, with_taken, OwnLog, IsClosed, Knows, Kept, SenderSees, TakerSees}
+use Rattle.esa_intake.specs.Keeping.{envelopes, put_by, IsSealedOf, first, with_sender, new_sender, with_closed, spent, with_put, with_taken, OwnLog, IsClosed, Knows, KnowForm, IsOfOneForm, Kept, SenderSees, TakerSees}
+use Rattle.esa_intake.proofs.Counts.{none-put}
 
 -- what a push adds to each sender's part of the log
 put_by-own : (place : ℕ) (log : List (ℕ × Sealed)) (sealed : Sealed) → put_by place (log ++ (place, sealed) ∷ []) ≡ put_by place log ++ sealed ∷ []
@@ -48,11 +52,29 @@ begins = (
   refl,
   (λ place hand at may. ⊎_elim (λ none. absurd (some-ne-none hand (sym none))) (λ (mine : (place ≡ 0) × (first ≡ hand)). (ap (λ (h : Hand). h.number) (sym mine.1) ∙ sym mine.0, ap (λ (h : Hand). h.put) (sym mine.1))) (at_end [] first hand place at)),
   (λ hand at. subst (Knows [] [] (first ∷ [])) (some-injective first hand at) (refl, refl, λ k d below. absurd (omega arith))),
-  λ number past. refl,
+  (λ number past. refl),
+  (
+    One,
+    (λ k d below. absurd (omega arith)),
+    λ place hand at may. ⊎_elim (λ none. absurd (some-ne-none hand (sym none))) (λ (mine : (place ≡ 0) × (first ≡ hand)). ap (λ (h : Hand). h.form) (sym mine.1)) (at_end [] first hand place at),
+  ),
 )
 
-pub puts : (n place : ℕ) (hand : Hand) (sealed : Sealed) → hand.puts ≡ true → Pushes Kept n place hand sealed (λ now. now ≡ with_put hand sealed)
-puts n place hand sealed may waiting hands room kept at =
+-- a pass whose form and right are those of the one that stood there
+form_same : (form : Form) (hands : List Hand) (place : ℕ) (hand now : Hand) → get_elem? hands place ≡ some hand → now.puts ≡ hand.puts → now.form ≡ hand.form → KnowForm form hands → KnowForm form (set hands place now)
+form_same form hands place hand now at puts_same same know = λ other u there_is may.
+    ⊎_elim
+    (λ (is : (other ≡ place) × (now ≡ u)). ap (λ (h : Hand). h.form) (sym is.1) ∙ same ∙ know place hand at (sym puts_same ∙ ap (λ (h : Hand). h.puts) is.1 ∙ may))
+    (λ (isnt : (other ≢ place) × (get_elem? hands other ≡ some u)). know other u isnt.1 may)
+    (at_set hands place other now u there_is)
+
+-- a fact of all elements is one of that behind some
+between_of : {X : Type 0} (P : X → Type 0) (xs : List X) (x : X) (ys : List X) → All P (xs ++ x ∷ ys) → P x
+between_of P [] x ys all = All-head P x ys all
+between_of P (y ∷ xs) x ys all = between_of P xs x ys (All-tail P y (xs ++ x ∷ ys) all)
+
+pub puts : (n place : ℕ) (hand : Hand) (sealed : Sealed) → hand.puts ≡ true → IsSealedOf hand.form sealed → Pushes Kept n place hand sealed (λ now. now ≡ with_put hand sealed)
+puts n place hand sealed may of waiting hands room kept at =
     let log = kept.0 in
     let taken = kept.1 in
     let now = with_put hand sealed in
@@ -87,9 +109,15 @@ puts n place hand sealed may waiting hands room kept at =
             (λ (is : (0 ≡ place) × (now ≡ u)). subst (Knows more taken (set hands place now)) is.1 (step hand (kept.4 hand (ap (get_elem? hands) is.0 ∙ at))))
             (λ (isnt : (0 ≢ place) × (get_elem? hands 0 ≡ some u)). step u (kept.4 u isnt.1))
             (at_set hands place 0 now u there_is)),
-        λ number past.
+        (λ number past.
             let far : length hands ≤ number = omega (arith, length-set hands place now, past) in
-            put_by-other place number log sealed (λ same. absurd (omega (arith, same, far, inside))) ∙ kept.5 number far,
+            put_by-other place number log sealed (λ same. absurd (omega (arith, same, far, inside))) ∙ kept.5 number far),
+        (
+          kept.6.0,
+          subst (All (IsSealedOf kept.6.0)) (sym (map-append (λ (entry : ℕ × Sealed). entry.1) log ((place, sealed) ∷ [])))
+              (All-push (IsSealedOf kept.6.0) (envelopes log) sealed kept.6.1 (subst (λ (f : Form). IsSealedOf f sealed) (kept.6.2 place hand at may) of)),
+          form_same kept.6.0 hands place hand now at refl refl kept.6.2,
+        ),
       ),
       refl,
     )
@@ -116,8 +144,8 @@ closed_same log hands place hand now c at puts_same is = (
       (at_set hands place c.number now u there_is),
 )
 
-pub takes : (hand : Hand) → Pops Kept 0 hand (λ sealed now. now ≡ with_taken hand sealed)
-takes hand sealed waiting hands kept at =
+pub takes : (hand : Hand) → hand.puts ≡ true → Pops Kept 0 hand (λ sealed now. (now ≡ with_taken hand sealed) × IsSealedOf hand.form sealed)
+takes hand may sealed waiting hands kept at =
     let log = kept.0 in
     let taken = kept.1 in
     let now = with_taken hand sealed in
@@ -133,17 +161,55 @@ takes hand sealed waiting hands kept at =
             (ap (λ l. l ++ sealed ∷ []) knows.0, length-set hands 0 now ∙ knows.1, λ k d below. closed_same log hands 0 hand now (get_or hand.closed k d) at refl (knows.2 k d below)))
             (λ (isnt : (0 ≢ 0) × (get_elem? hands 0 ≡ some u)). absurd (isnt.0 refl))
             (at_set hands 0 0 now u there_is)),
-        λ number past. kept.5 number (omega (arith, length-set hands 0 now, past)),
+        (λ number past. kept.5 number (omega (arith, length-set hands 0 now, past))),
+        (kept.6.0, kept.6.1, form_same kept.6.0 hands 0 hand now at refl refl kept.6.2),
       ),
-      refl,
+      (
+        refl,
+        between_of (IsSealedOf hand.form) taken sealed waiting
+            (subst (All (IsSealedOf hand.form)) kept.2 (subst (λ (f : Form). All (IsSealedOf f) (envelopes log)) (sym (kept.6.2 0 hand at may)) kept.6.1)),
+      ),
     )
 
-pub forks : (hand : Hand) → Forks Kept 0 hand (with_sender hand) (new_sender hand)
-forks hand waiting hands kept at =
+-- the form that a pass knows that makes a sender, before it knew any, or the same as before
+module _ (form : Form) (log : List (ℕ × Sealed)) (hands : List Hand) (hand right : Hand) (at : get_elem? hands 0 ≡ some hand) (is : right.form ≡ form) where
+  form_first : length hands ≡ 1 → envelopes log ≡ [] → IsOfOneForm log (set hands 0 (with_sender form hand) ++ right ∷ [])
+  form_first alone nothing = (
+    form,
+    subst (All (IsSealedOf form)) (sym nothing) (λ k d below. absurd (omega arith)),
+    λ place u there_is may. ⊎_elim
+        (λ before. ⊎_elim
+        (λ (same : (place ≡ 0) × (with_sender form hand ≡ u)). ap (λ (h : Hand). h.form) (sym same.1))
+        (λ (isnt : (place ≢ 0) × (get_elem? hands place ≡ some u)). absurd (isnt.0 (omega (arith, alone, there hands place u isnt.1))))
+        (at_set hands 0 place (with_sender form hand) u before))
+        (λ (last : (place ≡ length (set hands 0 (with_sender form hand))) × (right ≡ u)). ap (λ (h : Hand). h.form) (sym last.1) ∙ is)
+        (at_end (set hands 0 (with_sender form hand)) right u place there_is),
+  )
+
+  form_later : hand.puts ≡ true → hand.form ≡ form → IsOfOneForm log hands → IsOfOneForm log (set hands 0 (with_sender form hand) ++ right ∷ [])
+  form_later may known before = (
+    before.0,
+    before.1,
+    λ place u there_is may_too. ⊎_elim
+        (λ earlier. form_same before.0 hands 0 hand (with_sender form hand) at refl (sym known) before.2 place u earlier may_too)
+        (λ (last : (place ≡ length (set hands 0 (with_sender form hand))) × (right ≡ u)).
+        ap (λ (h : Hand). h.form) (sym last.1) ∙ is ∙ sym known ∙ before.2 0 hand at may)
+        (at_end (set hands 0 (with_sender form hand)) right u place there_is),
+  )
+
+  pub form_of_senders : (n : ℕ) → hand.senders ≡ n → hand.puts ≡ true → hand.put ≡ [] → (1 ≤ hand.senders → hand.form ≡ form) → length hands ≡ hand.senders + 1
+      → hand.put ≡ put_by 0 log → ((number : ℕ) → length hands ≤ number → put_by number log ≡ []) → IsOfOneForm log hands
+      → IsOfOneForm log (set hands 0 (with_sender form hand) ++ right ∷ [])
+  form_of_senders zero same may none known long own within before =
+      form_first (omega (arith, long, same)) (none-put log (sym none ∙ own) (λ number past. within number (omega (arith, long, same, past))))
+  form_of_senders (suc n) same may none known long own within before = form_later may (known (omega (arith, same))) before
+
+pub forks : (form : Form) (hand : Hand) → hand.puts ≡ true → hand.put ≡ [] → (1 ≤ hand.senders → hand.form ≡ form) → Forks Kept 0 hand (with_sender form hand) (new_sender form hand)
+forks form hand may none known waiting hands kept at =
     let log = kept.0 in
     let taken = kept.1 in
-    let left = with_sender hand in
-    let right = new_sender hand in
+    let left = with_sender form hand in
+    let right = new_sender form hand in
     let now = set hands 0 left in
     let knows = kept.4 hand at in
     let inside = there hands 0 hand at in
@@ -173,7 +239,8 @@ forks hand waiting hands kept at =
           (at_set hands 0 0 left u before))
           (λ (last : (0 ≡ length now) × (right ≡ u)). absurd (omega (arith, last.0, length-set hands 0 left, inside)))
           (at_end now right u 0 there_is)),
-      λ number past. kept.5 number (omega (arith, long, past)),
+      (λ number past. kept.5 number (omega (arith, long, past))),
+      form_of_senders form log hands hand right at refl hand.senders refl may none known knows.1 (kept.3 0 hand at may).1 kept.5 kept.6,
     )
 
 pub merges : (hand : Hand) (place : ℕ) (other : Hand) → other.puts ≡ true → Merges Kept 0 hand place other (with_closed hand other) spent
@@ -213,7 +280,15 @@ merges hand place other may waiting hands kept at apart at_other =
           (λ (never : (0 ≢ 0) × (get_elem? hands 0 ≡ some u)). absurd (never.0 refl))
           (at_set hands 0 0 both u isnt.1))
           (at_set between place 0 spent u there_is)),
-      λ number past. kept.5 number (omega (arith, long, past)),
+      (λ number past. kept.5 number (omega (arith, long, past))),
+      (
+        kept.6.0,
+        kept.6.1,
+        λ number u there_is may_too. ⊎_elim
+            (λ (mine : (number ≡ place) × (spent ≡ u)). absurd (true≢false (sym may_too ∙ ap (λ (h : Hand). h.puts) (sym mine.1))))
+            (λ (isnt : (number ≢ place) × (get_elem? between number ≡ some u)). form_same kept.6.0 hands 0 hand both at refl refl kept.6.2 number u isnt.1 may_too)
+            (at_set between place number spent u there_is),
+      ),
     )
 
 pub sender_sees : (place : ℕ) (hand : Hand) → hand.puts ≡ true → Learns Kept place hand (SenderSees hand)
@@ -229,5 +304,6 @@ taker_sees hand may waiting hands kept at =
       kept.2 ∙ ap (λ l. l ++ waiting) (sym knows.0),
       mine.1,
       (λ k d below. (knows.2 k d below).0),
-      λ number past. kept.5 number (omega (arith, knows.1, past)),
+      (λ number past. kept.5 number (omega (arith, knows.1, past))),
+      subst (λ (f : Form). All (IsSealedOf f) (envelopes kept.0)) (sym (kept.6.2 0 hand at may)) kept.6.1,
     )

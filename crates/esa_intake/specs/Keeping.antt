@@ -3,6 +3,9 @@ use Rattle.std.specs.Prelude.{◌≡◌, ℕ, ◌+◌, ◌<◌, ◌≤◌, ◌==
 use Rattle.std.specs.List.{filter}
 use mathlib.Core.Option.{some}
 use lib.ListN.{get_elem?}
+use Rattle.esa_params.specs.Form.{envelope_length}
+use Rattle.esa_params.specs.declared.form.Form.{Form}
+use Rattle.esa_params.specs.declared.form.Form.TheVariants.{One}
 use Rattle.esa_intake.specs.declared.sealed.Sealed.{Sealed}
 use Rattle.esa_intake.specs.declared.hand.Hand.{Hand}
 use Rattle.esa_intake.specs.declared.hand.Closed.{Closed}
@@ -17,22 +20,26 @@ envelopes log = map (λ entry. entry.1) log
 abbrev pub put_by : ℕ → List (ℕ × Sealed) → List Sealed
 put_by number log = envelopes (filter (λ entry. entry.0 == number) log)
 
--- ---- how what a pass knows changes
+-- an envelope of a form is as long as all of the form
+abbrev pub IsSealedOf : Form → Sealed → Type 0
+IsSealedOf form sealed = sealed.length ≡ envelope_length form
+
+-- ---- how what a pass knows changes. The first pass doesn't know the form before it makes a sender
 
 abbrev pub first : Hand
-first = record { puts = true; number = 0; put = []; senders = 0; taken = []; closed = [] }
+first = record { puts = true; form = One; number = 0; put = []; senders = 0; taken = []; closed = [] }
 
-abbrev pub with_sender : Hand → Hand
-with_sender hand = record hand { senders = hand.senders + 1 }
+abbrev pub with_sender : Form → Hand → Hand
+with_sender form hand = record hand { form = form; senders = hand.senders + 1 }
 
-abbrev pub new_sender : Hand → Hand
-new_sender hand = record { puts = true; number = hand.senders + 1; put = []; senders = 0; taken = []; closed = [] }
+abbrev pub new_sender : Form → Hand → Hand
+new_sender form hand = record { puts = true; form = form; number = hand.senders + 1; put = []; senders = 0; taken = []; closed = [] }
 
 abbrev pub with_closed : Hand → Hand → Hand
 with_closed hand other = record hand { closed = hand.closed ++ record { number = other.number; put = other.put } ∷ [] }
 
 abbrev pub spent : Hand
-spent = record { puts = false; number = 0; put = []; senders = 0; taken = []; closed = [] }
+spent = record { puts = false; form = One; number = 0; put = []; senders = 0; taken = []; closed = [] }
 
 abbrev pub with_put : Hand → Sealed → Hand
 with_put hand sealed = record hand { put = hand.put ++ sealed ∷ [] }
@@ -58,10 +65,18 @@ Knows log taken hands hand = (hand.taken ≡ taken) × (length hands ≡ hand.se
 abbrev pub TakerLog : List (ℕ × Sealed) → List Sealed → List Hand → Type 0
 TakerLog log taken hands = (hand : Hand) → get_elem? hands 0 ≡ some hand → Knows log taken hands hand
 
+-- each pass that may put knows this form
+abbrev pub KnowForm : Form → List Hand → Type 0
+KnowForm form hands = (place : ℕ) (hand : Hand) → get_elem? hands place ≡ some hand → hand.puts ≡ true → hand.form ≡ form
+
+-- all that was put is of the form that they know
+abbrev pub IsOfOneForm : List (ℕ × Sealed) → List Hand → Type 0
+IsOfOneForm log hands = (form : Form) × All (IsSealedOf form) (envelopes log) × KnowForm form hands
+
 -- What was put is what was taken, and then what waits
 abbrev pub Kept : List Sealed → List Hand → Type 0
 Kept waiting hands = (log : List (ℕ × Sealed)) × (taken : List Sealed) × (envelopes log ≡ taken ++ waiting)
-    × OwnLog log hands × TakerLog log taken hands × ((number : ℕ) → length hands ≤ number → put_by number log ≡ [])
+    × OwnLog log hands × TakerLog log taken hands × ((number : ℕ) → length hands ≤ number → put_by number log ≡ []) × IsOfOneForm log hands
 
 -- ---- what a pass sees of what waits
 
@@ -69,8 +84,8 @@ Kept waiting hands = (log : List (ℕ × Sealed)) × (taken : List Sealed) × (e
 abbrev pub SenderSees : Hand → List Sealed → Type 0
 SenderSees hand waiting = (log : List (ℕ × Sealed)) × (taken : List Sealed) × (envelopes log ≡ taken ++ waiting) × (hand.put ≡ put_by hand.number log)
 
--- some log is what was taken and what waits, and has what the closed senders had put
+-- some log is what was taken and what waits, has what the closed senders had put, and is of the form
 abbrev pub TakerSees : Hand → List Sealed → Type 0
 TakerSees hand waiting = (log : List (ℕ × Sealed)) × (envelopes log ≡ hand.taken ++ waiting)
     × (hand.put ≡ put_by 0 log) × All (λ (closed : Closed). closed.put ≡ put_by closed.number log) hand.closed
-    × ((number : ℕ) → hand.senders + 1 ≤ number → put_by number log ≡ [])
+    × ((number : ℕ) → hand.senders + 1 ≤ number → put_by number log ≡ []) × All (IsSealedOf hand.form) (envelopes log)

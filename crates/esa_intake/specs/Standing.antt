@@ -1,5 +1,5 @@
 -- What an intake, its senders and its taker are seen as.
-use Rattle.std.specs.Prelude.{◌≡◌, ℕ, zero, suc, true, List, [], ◌∷◌, ◌++◌, length, map, All}
+use Rattle.std.specs.Prelude.{◌≡◌, ◌≤◌, ℕ, zero, suc, true, List, [], ◌∷◌, ◌++◌, length, map, All}
 use Rattle.std.specs.List.{sum_by}
 use Rattle.std.specs.List.Sorted.{IsPermutation}
 use Rattle.crossbeam_queue.specs.Passes.{view, IsPassOf, ruled_capacity}
@@ -10,7 +10,7 @@ use Rattle.esa_intake.specs.declared.intake.Sender.{Sender}
 use Rattle.esa_intake.specs.declared.intake.Taker.{Taker}
 use Rattle.esa_intake.specs.declared.intake.Stand.{Stand}
 use Rattle.esa_intake.specs.declared.hand.Closed.{Closed}
-use Rattle.esa_intake.specs.Keeping.{envelopes, put_by, SenderSees, TakerSees}
+use Rattle.esa_intake.specs.Keeping.{IsSealedOf, envelopes, put_by, SenderSees, TakerSees}
 
 abbrev pub form_of : Intake → Form
 form_of intake = intake.form
@@ -35,18 +35,25 @@ senders_of taker = (view taker.pass).senders
 abbrev pub taken_of : Taker → List Sealed
 taken_of taker = (view taker.pass).taken
 
--- it is a sender of this intake
+-- it is a sender of this intake, and knows its form
 abbrev pub IsSender : Intake → Sender → Type 0
 IsSender intake sender = IsPassOf intake.line sender.pass × (ruled_capacity intake.line ≡ intake.room) × ((view sender.pass).puts ≡ true)
+    × ((view sender.pass).form ≡ intake.form)
 
--- it is a pass of this intake that may take, and put nothing
+-- it is a pass of this intake that may take, put nothing, and knows the form
 abbrev pub HasTaking : Intake → Taker → Type 0
 HasTaking intake taker = IsPassOf intake.line taker.pass × (ruled_capacity intake.line ≡ intake.room) × (taker.pass.id ≡ 0)
-    × ((view taker.pass).puts ≡ true) × ((view taker.pass).put ≡ [])
+    × ((view taker.pass).puts ≡ true) × ((view taker.pass).put ≡ []) × ((view taker.pass).form ≡ intake.form)
 
 -- it is the taker of this intake, which puts nothing, and no sender was given back to it
 abbrev pub IsTaker : Intake → Taker → Type 0
 IsTaker intake taker = HasTaking intake taker × ((view taker.pass).closed ≡ [])
+
+-- it is the taker of an intake that is being made, and knows the form from its first sender on
+abbrev pub IsEarlyTaker : Intake → Taker → Type 0
+IsEarlyTaker intake taker = IsPassOf intake.line taker.pass × (ruled_capacity intake.line ≡ intake.room) × (taker.pass.id ≡ 0)
+    × ((view taker.pass).puts ≡ true) × ((view taker.pass).put ≡ []) × ((view taker.pass).closed ≡ [])
+    × (1 ≤ senders_of taker → (view taker.pass).form ≡ intake.form)
 
 -- at a moment as many envelopes waited as there is room for
 abbrev pub HasWaited : ℕ → Sender → Type 0
@@ -108,8 +115,9 @@ AllBack intake old new = HasTaking intake new × (senders_of new ≡ senders_of 
 abbrev pub IsFull : Intake → Taker → Type 0
 IsFull intake taker = HasTaking intake taker × IsPermutation (numbers (senders_of taker)) (map (λ (closed : Closed). closed.number) (closed_of_taker taker))
 
--- what was taken and this rest are together what the log has
+-- what was taken and this rest are together what the log has, which is of the form
 abbrev pub TakerRest : Taker → List Sealed → Type 0
 TakerRest taker rest = (log : List (ℕ × Sealed)) × (envelopes log ≡ taken_of taker ++ rest)
     × All (λ (closed : Closed). closed.put ≡ put_by closed.number log) (closed_of_taker taker)
     × ((f : Sealed → ℕ) → sum_by f (envelopes log) ≡ sum_by (λ (closed : Closed). sum_by f closed.put) (closed_of_taker taker))
+    × All (IsSealedOf (view taker.pass).form) (envelopes log)

@@ -3,6 +3,7 @@
 use crate::sealed::Sealed;
 use crossbeam_queue::RuledArrayQueue;
 use crossbeam_queue::protocol::{Join, Lesson, Outcome, Protocol, Split};
+use esa_params::Form;
 use std::collections::LinkedList;
 
 /// What a sender had put when its pass was given back.
@@ -15,6 +16,8 @@ pub struct Closed {
 pub struct Hand {
     /// Whether it may put.
     pub puts: bool,
+    /// The form of all envelopes.
+    pub form: Form,
     /// Its number: 0 is the taker's, and the senders' are counted from 1.
     pub number: u64,
     /// What it has put, in order.
@@ -25,7 +28,7 @@ pub struct Hand {
     pub closed: LinkedList<Closed>,
 }
 
-/// What waits is what was put and was not taken.
+/// What waits is what was put and was not taken, and all of it is of one form.
 pub(crate) struct KeepsAll;
 
 impl Protocol<Sealed, Hand> for KeepsAll {
@@ -36,15 +39,28 @@ impl Protocol<Sealed, Hand> for KeepsAll {
     ghost first = { first };
 }
 
-/// The taker's pass is cut into itself and that of a new sender.
-pub(crate) struct NewSender;
+/// The taker's pass is cut into itself and that of a new sender, of an intake of form One.
+pub(crate) struct NewSenderOfOne;
 
-impl Split<Hand> for NewSender {
+impl Split<Hand> for NewSenderOfOne {
+    ghost use Rattle.esa_params.specs.declared.form.Form.TheVariants.{One};
     ghost use Rattle.esa_intake.specs.Keeping.{with_sender, new_sender};
 
-    ghost left = { with_sender };
+    ghost left = { with_sender One };
 
-    ghost right = { new_sender };
+    ghost right = { new_sender One };
+}
+
+/// The same of form Two.
+pub(crate) struct NewSenderOfTwo;
+
+impl Split<Hand> for NewSenderOfTwo {
+    ghost use Rattle.esa_params.specs.declared.form.Form.TheVariants.{Two};
+    ghost use Rattle.esa_intake.specs.Keeping.{with_sender, new_sender};
+
+    ghost left = { with_sender Two };
+
+    ghost right = { new_sender Two };
 }
 
 /// A sender's pass is given back to the taker.
@@ -79,9 +95,9 @@ pub(crate) struct Takes;
 
 impl Outcome<Sealed, Hand> for Takes {
     ghost use Rattle.std.specs.Prelude.{◌≡◌};
-    ghost use Rattle.esa_intake.specs.Keeping.{with_taken};
+    ghost use Rattle.esa_intake.specs.Keeping.{IsSealedOf, with_taken};
 
-    ghost then = { λ before sealed now. now ≡ with_taken before sealed };
+    ghost then = { λ before sealed now. (now ≡ with_taken before sealed) × IsSealedOf before.form sealed };
 }
 
 impl Lesson<Sealed, Hand> for Takes {

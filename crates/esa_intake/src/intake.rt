@@ -1,11 +1,12 @@
 //! The intake, its senders and its taker.
 
-ghost use Rattle.std.specs.Prelude.{◌≡◌, ◌+◌, ◌<◌, ◌≤◌, ◌++◌, ◌∷◌, [], None, All, IfOk, OnOk, MatchOption, length, map, take, if◌then◌else◌};
+ghost use Rattle.std.specs.Prelude.{◌≡◌, ◌+◌, ◌<◌, ◌≤◌, ◌++◌, ◌∷◌, [], None, All, IfOk, IfSome, OnOk, MatchOption, length, map, take, if◌then◌else◌};
 ghost use Rattle.std.specs.List.Sorted.{IsPermutation};
 ghost use Rattle.std.specs.Bool.{OnFalse};
-ghost use Rattle.esa_intake.specs.Standing.{form_of, room_of, IsSender, IsTaker, number_of, put_of, senders_of, taken_of, closed_of, closed_of_taker, IsFull, IsMade, AreNew, AreAll, HasWaited, WaitedNone, KeepsEach, KeepsOrder, AllBack, TakerRest};
+ghost use Rattle.esa_intake.specs.Keeping.{IsSealedOf};
+ghost use Rattle.esa_intake.specs.Standing.{form_of, room_of, IsSender, IsTaker, IsEarlyTaker, number_of, put_of, senders_of, taken_of, closed_of, closed_of_taker, IsFull, IsMade, AreNew, AreAll, HasWaited, WaitedNone, KeepsEach, KeepsOrder, AllBack, TakerRest};
 
-use crate::hand::{GivenBack, Hand, Line, NewSender, Puts, Takes};
+use crate::hand::{GivenBack, Hand, Line, NewSenderOfOne, NewSenderOfTwo, Puts, Takes};
 use crate::sealed::Sealed;
 use crossbeam_queue::Pass;
 use esa_params::Form;
@@ -65,7 +66,8 @@ impl Intake {
         taker: &mut Taker,
         number: u32,
     ) -> Result<Vec<Sender>, AllocError>
-        requires taker { IsTaker self.now taker.old }
+        requires some { 0 < number }
+        requires taker { IsEarlyTaker self.now taker.old }
         requires none { senders_of taker.old ≡ 0 }
         ensures senders { IfOk result (λ senders. AreNew self.now number senders.items) }
         ensures taker { OnOk result (IsTaker self.now taker.new × (senders_of taker.new ≡ number) × (taken_of taker.new ≡ taken_of taker.old)) }
@@ -86,17 +88,21 @@ impl Intake {
 
     /// Makes one more sender.
     fn sender(&self, taker: &mut Taker) -> Sender
-        requires { IsTaker self.now taker.old }
+        requires { IsEarlyTaker self.now taker.old }
         ensures sender { IsSender self.now result × (number_of result ≡ senders_of taker.old + 1) × (put_of result ≡ []) }
-        ensures taker { IsTaker self.now taker.new × (senders_of taker.new ≡ senders_of taker.old + 1) × (taken_of taker.new ≡ taken_of taker.old) }
+        ensures taker { IsEarlyTaker self.now taker.new × (senders_of taker.new ≡ senders_of taker.old + 1) × (taken_of taker.new ≡ taken_of taker.old) }
     {
-        let pass = self.line.another::<NewSender>(&mut taker.pass);
+        let pass = match self.form {
+            Form::One => self.line.another::<NewSenderOfOne>(&mut taker.pass),
+            Form::Two => self.line.another::<NewSenderOfTwo>(&mut taker.pass),
+        };
         Sender { pass }
     }
 
     /// Puts an envelope. False only where at a moment of this call as many waited as there is room for.
     pub(crate) fn put<R: Wait>(&self, rt: &R, sender: &mut Sender, sealed: Sealed) -> bool
-        requires { IsSender self.now sender.old }
+        requires sender { IsSender self.now sender.old }
+        requires form { IsSealedOf (form_of self.now) sealed }
         ensures sender { IsSender self.now sender.new × (number_of sender.new ≡ number_of sender.old) }
         ensures put { put_of sender.new ≡ (if result then put_of sender.old ++ sealed ∷ [] else put_of sender.old) }
         ensures full { OnFalse result (HasWaited (room_of self.now) sender.old) }
@@ -111,6 +117,7 @@ impl Intake {
         requires { IsTaker self.now taker.old }
         ensures taker { IsTaker self.now taker.new × (senders_of taker.new ≡ senders_of taker.old) }
         ensures taken { MatchOption result (taken_of taker.new ≡ taken_of taker.old) (λ sealed. taken_of taker.new ≡ taken_of taker.old ++ sealed ∷ []) }
+        ensures form { IfSome result (IsSealedOf (form_of self.now)) }
         ensures empty { result ≡ None → WaitedNone taker.old }
     {
         self.line.pop_as::<Takes, R>(rt, &mut taker.pass)
@@ -163,6 +170,9 @@ impl Intake {
 
         // What was taken and what is left is what was put, each envelope as often.
         ensures each { KeepsEach senders.items (taken_of taker ++ take result rest.new) }
+
+        // It is of the form.
+        ensures form { All (IsSealedOf (form_of self)) (taken_of taker ++ take result rest.new) }
 
         // And that of each sender is in its order.
         ensures order { KeepsOrder senders.items (taken_of taker ++ take result rest.new) }

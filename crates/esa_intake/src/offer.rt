@@ -4,6 +4,7 @@ ghost use Rattle.std.specs.Prelude.{◌≡◌, Err, IfOk, IfErr, OnOk, OnErr};
 ghost use Rattle.esa_batcher.specs.Adding.{envelope_in};
 ghost use Rattle.esa_line.specs.declared.refused.LineRefused.{LineRefused};
 ghost use Rattle.esa_intake.specs.declared.offer.OfferRefused.TheVariants.{Line, Full};
+ghost use Rattle.esa_intake.specs.Keeping.{IsSealedOf};
 ghost use Rattle.esa_intake.specs.Standing.{form_of, room_of, IsSender, number_of, put_of, HasWaited};
 ghost use Rattle.esa_intake.specs.Offering.{IsSealedLine, IsAccepted, JoinsLine};
 
@@ -26,6 +27,7 @@ pub enum OfferRefused {
 /// The envelope of a submission line, or the line's first cause.
 fn sealed_in(form: Form, line: &[u8], number: u64) -> Result<Sealed, LineRefused>
     ensures sealed { IfOk result (IsSealedLine form line.now) }
+    ensures form { IfOk result (IsSealedOf form) }
     ensures refused { IfErr result (λ refused. envelope_in form line.now ≡ Err refused.cause) }
     ensures number { IfErr result (λ refused. refused.line ≡ number) }
 {

@@ -1,9 +1,11 @@
-//! A full intake and an empty one, on one thread, and one between three threads.
+//! A full intake and an empty one, and an envelope for a batcher, on one thread, and an intake between three threads.
 
 ghost use Rattle.std.specs.Prelude.{◌<◌, ◌^◌};
+ghost use Rattle.esa_intake.specs.Keeping.{IsSealedOf};
 ghost use Rattle.esa_intake.specs.Standing.{IsSender, IsTaker};
 
 use super::*;
+use esa_batcher::{AddRefused, Batcher};
 use esa_bytes::u32_at;
 use esa_line::{LineCause, LineRefused};
 use esa_params::Form;
@@ -73,6 +75,33 @@ fn full_and_empty(rt: HostRuntime) -> Result<(), Fail> {
         .close(&rt, stand.senders, stand.taker, &mut rest);
     assert_eq!(rt; count, 1);
     assert_eq!(rt; rest, [waiting(0xf2), waiting(0)]);
+    Ok(())
+}
+
+/// Adds an envelope that was taken to a batcher of its form.
+fn add_taken(batcher: &mut Batcher, sealed: &Sealed) -> Result<(), AddRefused>
+    requires { IsSealedOf batcher.old.form sealed.now }
+{
+    batcher.put(&sealed.bytes[..sealed.length as usize])
+}
+
+#[test]
+fn taken_into_a_batcher(rt: HostRuntime) -> Result<(), Fail> {
+    let mut stand = Intake::make(rt.alloc(), Form::One, 1, 1)?;
+    let Some(mut sender) = stand.senders.pop() else {
+        return Err(Fail::from("one sender"));
+    };
+    assert_eq!(rt;
+        stand
+            .intake
+            .offer(&rt, &mut sender, &line_of(b'0', b'1'), 1),
+        Ok(())
+    );
+    let Some(sealed) = stand.intake.take(&rt, &mut stand.taker) else {
+        return Err(Fail::from("one envelope"));
+    };
+    let mut batcher = Batcher::make(rt.alloc(), Form::One, 1)?;
+    assert_eq!(rt; add_taken(&mut batcher, &sealed), Ok(()));
     Ok(())
 }
 

@@ -16,5 +16,5 @@ returns c = record {
   };
   slot = refl;
   cause = omega arith;
-  read = refl;
+  batch = refl;
 }

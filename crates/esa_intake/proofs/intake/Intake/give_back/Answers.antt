@@ -32,7 +32,7 @@ loop-sender-preserved c =
     (subst (λ left. IsPermutation (closed_of_taker c.loop-sender.taker ++ map closed_of left) (map closed_of c.args.senders.items)) c.in-Some.ensures.items i.closed) in
     record {
       back = (
-        ((queue.0 ∙ i.back.0.0.0, queue.2 ∙ i.back.0.0.1), i.back.0.1, queue.1 ∙ i.back.0.2, ap (λ v. v.puts) hand ∙ i.back.0.3, ap (λ v. v.put) hand ∙ i.back.0.4),
+        ((queue.0 ∙ i.back.0.0.0, queue.2 ∙ i.back.0.0.1), i.back.0.1, queue.1 ∙ i.back.0.2, ap (λ v. v.puts) hand ∙ i.back.0.3, ap (λ v. v.put) hand ∙ i.back.0.4, ap (λ v. v.form) hand ∙ i.back.0.5),
         ap (λ v. v.senders) hand ∙ i.back.1,
         ap (λ v. v.taken) hand ∙ i.back.2,
       );
