@@ -7,7 +7,7 @@ mod Holding
 mod Keeping
 mod Making
 mod Opening
-mod Queueing
+pub mod Queueing
 pub mod Resting
 mod Rounding
 mod Sealing
