@@ -1,4 +1,5 @@
 mod Acting
+pub mod Chunking
 mod Counting
 mod Dealing
 mod Exchanging

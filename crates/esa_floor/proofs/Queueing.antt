@@ -38,7 +38,7 @@ Waits p d record_of o held i = queue_at held i ≡ map record_of (queued p d o (
 module _ (p : Sizes) (d : Draw) (record_of : ℕ → Item) (o : List ℕ) (j : ℕ) (held : Held) (counts targets : List ℕ) (items : List Item)
     (of : AreOf p held counts) (is : targets ≡ d.targets j) (came : items ≡ map record_of (places_of p j))
   where
-    coming_is : (i : ℕ) → chosen i targets items ≡ map record_of (chosen_places p d i j)
+    pub coming_is : (i : ℕ) → chosen i targets items ≡ map record_of (chosen_places p d i j)
     coming_is i =
         ap (λ (ts : List ℕ). chosen i ts items) is ∙ ap (chosen i (d.targets j)) came ∙ chosen-map record_of i (d.targets j) (places_of p j)
 
