@@ -25,7 +25,7 @@ pub fn begin<V: Device, G: Told, C: Coins>(
     ensures fresh { turns_made floor.new ≡ [] }
     ensures posts { ArePosts G.draws C.target_list floor.new workers.new }
     ensures each { length workers.new ≡ length workers.old }
-    ensures hold { AllHold floor.new workers.new }
+    ensures hold { AllHold G.draws floor.new workers.new }
     ensures queues { QueuesHold G.draws floor.new }
 {
     floor.begin(attempt);

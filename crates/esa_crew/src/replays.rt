@@ -5,11 +5,11 @@ ghost use Rattle.esa_params.specs.Sizes.{ArePlanned};
 ghost use Rattle.esa_spec.specs.Completion.{completed};
 ghost use Rattle.esa_spec.specs.Traces.{asked};
 ghost use Rattle.esa_spec.specs.Turns.{next};
-ghost use Rattle.esa_floor.specs.Keeping.{HoldsRecords, QueuesHold};
+ghost use Rattle.esa_floor.specs.Keeping.{QueuesHold};
 ghost use Rattle.esa_floor.specs.Marks.{roots_of};
 ghost use Rattle.esa_floor.specs.Standing.{Stands, attempt_begun, turns_made};
 ghost use Rattle.esa_floor.specs.Working.{Working};
-ghost use Rattle.esa_crew.specs.Posts.{AllHold, ArePosts, IsPost};
+ghost use Rattle.esa_crew.specs.Posts.{AllHold, ArePosts, Holds, IsPost};
 ghost use Rattle.esa_crew.specs.Replays.{IsReplayed};
 
 use esa_device::Device;
@@ -35,9 +35,9 @@ fn step<V: Device, G: Told, C: Coins>(floor: &mut Floor<V, G>, worker: &mut Work
     ensures post { IsPost G.draws C.target_list floor.new worker.old.number worker.new }
     ensures others { (number : ℕ) (other : Working C) → number ≢ worker.old.number
         → IsPost G.draws C.target_list floor.old number other → IsPost G.draws C.target_list floor.new number other }
-    ensures holds { HoldsRecords floor.new worker.new }
-    ensures others_hold { (other : Working C) → HoldsRecords floor.old other → HoldsRecords floor.new other }
-    ensures queues { HoldsRecords floor.old worker.old → QueuesHold G.draws floor.old → QueuesHold G.draws floor.new }
+    ensures holds { Holds G.draws floor.old worker.old → QueuesHold G.draws floor.old → Holds G.draws floor.new worker.new }
+    ensures others_hold { (other : Working C) → Holds G.draws floor.old other → Holds G.draws floor.new other }
+    ensures queues { Holds G.draws floor.old worker.old → QueuesHold G.draws floor.old → QueuesHold G.draws floor.new }
 {
     let _ = floor.turn(worker);
     worker.prepare();
@@ -65,8 +65,8 @@ fn step_of<V: Device, G: Told, C: Coins>(
         ++ option_to_list (asked floor.old.plan (attempt_begun floor.old) (next floor.old.plan.b (turns_made floor.old) number)) }
     ensures posts { ArePosts G.draws C.target_list floor.new workers.new }
     ensures each { length workers.new ≡ length workers.old }
-    ensures hold { AllHold floor.old workers.old → AllHold floor.new workers.new }
-    ensures queues { AllHold floor.old workers.old → QueuesHold G.draws floor.old → QueuesHold G.draws floor.new }
+    ensures hold { AllHold G.draws floor.old workers.old → QueuesHold G.draws floor.old → AllHold G.draws floor.new workers.new }
+    ensures queues { AllHold G.draws floor.old workers.old → QueuesHold G.draws floor.old → QueuesHold G.draws floor.new }
 {
     let worker = &mut workers[number as usize];
     step(floor, worker);
@@ -128,8 +128,8 @@ pub fn replay<V: Device, G: Told, C: Coins>(
     ensures attempt { floor.new.attempt ≡ floor.old.attempt }
     ensures posts { ArePosts G.draws C.target_list floor.new workers.new }
     ensures each { length workers.new ≡ length workers.old }
-    ensures hold { AllHold floor.old workers.old → AllHold floor.new workers.new }
-    ensures queues { AllHold floor.old workers.old → QueuesHold G.draws floor.old → QueuesHold G.draws floor.new }
+    ensures hold { AllHold G.draws floor.old workers.old → QueuesHold G.draws floor.old → AllHold G.draws floor.new workers.new }
+    ensures queues { AllHold G.draws floor.old workers.old → QueuesHold G.draws floor.old → QueuesHold G.draws floor.new }
 {
     let plan = floor.plan();
     for made in 0..most_turns(&plan, turns) {

@@ -19,7 +19,7 @@ loop-place-preserved g c =
     record {
       posts = posts_more g.G.Told.draws g.C.Coins.target_list f c.begin.new.self c.args.attempt c.begin.ensures.begun workers n c.index-workers-place.result new inside inv.members
           c.begin-in-loop-place.ensures inv.posts;
-      hold = holds_more c.begin.new.self c.args.attempt workers n c.index-workers-place.result new inside c.begin-in-loop-place.ensures inv.hold;
+      hold = holds_more g.G.Told.draws c.begin.new.self c.args.attempt workers n c.index-workers-place.result new inside c.begin-in-loop-place.ensures inv.hold;
       members = members_more g.G.Told.draws g.C.Coins.target_list f c.begin.new.self c.args.attempt c.begin.ensures.begun workers n c.index-workers-place.result new inside inv.members
           c.begin-in-loop-place.ensures;
       each = length-set workers n new ∙ each;

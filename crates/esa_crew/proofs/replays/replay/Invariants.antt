@@ -18,8 +18,8 @@ invariant-loop-made g l =
       stands : Stands g.V.Device.faults g.G.Told.plan g.G.Told.draws l.floor;
       posts : ArePosts g.G.Told.draws g.C.Coins.target_list l.floor l.workers;
       each : length l.workers ≡ length l.initial.workers;
-      hold : AllHold l.initial.floor l.initial.workers → AllHold l.floor l.workers;
-      queues : AllHold l.initial.floor l.initial.workers → QueuesHold g.G.Told.draws l.initial.floor → QueuesHold g.G.Told.draws l.floor;
+      hold : AllHold g.G.Told.draws l.initial.floor l.initial.workers → QueuesHold g.G.Told.draws l.initial.floor → AllHold g.G.Told.draws l.floor l.workers;
+      queues : AllHold g.G.Told.draws l.initial.floor l.initial.workers → QueuesHold g.G.Told.draws l.initial.floor → QueuesHold g.G.Told.draws l.floor;
       origin : roots_of l.floor ≡ roots_of l.initial.floor;
       attempt : l.floor.attempt ≡ l.initial.floor.attempt;
       begun : attempt_begun l.floor ≡ a;

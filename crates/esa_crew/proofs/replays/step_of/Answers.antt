@@ -26,8 +26,9 @@ returns-clause-posts g c =
     (λ k other apart post. c.step.ensures.others k other (λ same. apart (same ∙ number)) post)
 
 pub returns-clause-hold : goal.returns-clause-hold
-returns-clause-hold g c =
-    all_hold c.args.floor.now c.step.new.floor c.args.workers.now c.args.number c.step.new.worker c.requires.number c.step.ensures.holds c.step.ensures.others_hold
+returns-clause-hold g c = λ all queues.
+    all_hold g.G.Told.draws c.args.floor.now c.step.new.floor c.args.workers.now c.args.number c.step.new.worker c.requires.number
+    (c.step.ensures.holds (all c.args.number c.index-workers-number.result c.requires.number) queues) c.step.ensures.others_hold all
 
 pub returns-clause-queues : goal.returns-clause-queues
 returns-clause-queues g c = λ all queues.
