@@ -9,7 +9,7 @@ ghost use Rattle.esa_floor.specs.Keeping.{QueuesHold};
 ghost use Rattle.esa_floor.specs.Marks.{roots_of};
 ghost use Rattle.esa_floor.specs.Standing.{Stands, attempt_begun, turns_made};
 ghost use Rattle.esa_floor.specs.Working.{Working};
-ghost use Rattle.esa_crew.specs.Posts.{AllHold, ArePosts, Holds, IsPost};
+ghost use Rattle.esa_crew.specs.Posts.{AllHold, ArePosts, KeepsRecords, IsPost};
 ghost use Rattle.esa_crew.specs.Replays.{IsReplayed};
 
 use esa_device::Device;
@@ -35,9 +35,9 @@ fn step<V: Device, G: Told, C: Coins>(floor: &mut Floor<V, G>, worker: &mut Work
     ensures post { IsPost G.draws C.target_list floor.new worker.old.number worker.new }
     ensures others { (number : ℕ) (other : Working C) → number ≢ worker.old.number
         → IsPost G.draws C.target_list floor.old number other → IsPost G.draws C.target_list floor.new number other }
-    ensures holds { Holds G.draws floor.old worker.old → QueuesHold G.draws floor.old → Holds G.draws floor.new worker.new }
-    ensures others_hold { (other : Working C) → Holds G.draws floor.old other → Holds G.draws floor.new other }
-    ensures queues { Holds G.draws floor.old worker.old → QueuesHold G.draws floor.old → QueuesHold G.draws floor.new }
+    ensures holds { KeepsRecords G.draws floor.old worker.old → QueuesHold G.draws floor.old → KeepsRecords G.draws floor.new worker.new }
+    ensures others_hold { (other : Working C) → KeepsRecords G.draws floor.old other → KeepsRecords G.draws floor.new other }
+    ensures queues { KeepsRecords G.draws floor.old worker.old → QueuesHold G.draws floor.old → QueuesHold G.draws floor.new }
 {
     let _ = floor.turn(worker);
     worker.prepare();
