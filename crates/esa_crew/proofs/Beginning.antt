@@ -9,7 +9,7 @@ use Rattle.esa_floor.specs.Parts.{Parts, begun_as}
 use Rattle.esa_floor.specs.Standing.{turns_made}
 use Rattle.esa_floor.specs.Workers.{IsInRound, IsOfFloor}
 use Rattle.esa_floor.specs.Working.{Working, begun_with}
-use Rattle.esa_crew.specs.Posts.{AreMembers, IsMember, IsPost}
+use Rattle.esa_crew.specs.Posts.{AreMembers, KeepsRecords, IsMember, IsPost}
 
 -- before its first turn it is in its round
 first_round : {C : Type 0} (b a : ℕ) (w : Working C) → IsInRound b [] (begun_with w a)
@@ -86,3 +86,19 @@ module _ {V C : Type 0} (ds : ℕ → Draw) (target_lists : C → ℕ → ℕ �
         | inr other ↦ subst (IsMember ds target_lists f k) (sym (get_or-set_other workers n k new w other))
             (members k w (let long = length-set workers n new in omega (arith, long, within)))
       ]
+
+-- a worker that has begun holds nothing yet
+pub holds_more : {V C : Type 0} (ds : ℕ → Draw) (g : Parts V) (a : ℕ) (workers : List (Working C)) (n : ℕ) (old new : Working C) → n < length workers
+    → new ≡ begun_with (get_or workers n old) a
+    → ((k : ℕ) (w : Working C) → k < n → KeepsRecords ds g (get_or workers k w))
+    → (k : ℕ) (w : Working C) → k < n + 1 → KeepsRecords ds g (get_or (set workers n new) k w)
+holds_more ds g a workers n old new inside made before k w within = elim (cases_eq k n) [
+  | inl same ↦ subst (λ (k : ℕ). KeepsRecords ds g (get_or (set workers n new) k w)) (sym same)
+      (subst (λ (x : Working _). KeepsRecords ds g x) (sym (get_or-set_same workers n new w inside))
+      (subst (λ (x : Working _). KeepsRecords ds g x) (sym made) (record {
+        records = λ record_of input some runs second within. absurd (omega (arith, second));
+        chunks = λ record_of input some runs third within. absurd (omega (arith, third));
+      })))
+  | inr other ↦ subst (λ (x : Working _). KeepsRecords ds g x) (sym (get_or-set_other workers n k new w other))
+      (before k w (let apart = other in omega (arith, within, apart)))
+]

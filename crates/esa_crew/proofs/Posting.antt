@@ -11,7 +11,7 @@ use Rattle.esa_floor.specs.Standing.{turns_made}
 use Rattle.esa_floor.specs.Workers.{IsOfFloor}
 use Rattle.esa_floor.specs.Working.{Working}
 use Rattle.esa_floor.specs.declared.floor.Roots.{Roots}
-use Rattle.esa_crew.specs.Posts.{ArePosts, IsPost}
+use Rattle.esa_crew.specs.Posts.{AllHold, ArePosts, KeepsRecords, IsPost}
 
 module _ {V : Type 0} (f g : Parts V) (origin : roots_of g ≡ roots_of f) where
   -- the turns of the attempt go on
@@ -51,4 +51,14 @@ posts_on ds target_lists f g workers n new inside posts post others k d within =
       (subst (IsPost ds target_lists g n) (sym (get_or-set_same workers n new d inside)) post)
   | inr other ↦ subst (IsPost ds target_lists g k) (sym (get_or-set_other workers n k new d other))
       (others k (get_or workers k d) other (posts k d (let long = length-set workers n new in omega (arith, long, within))))
+]
+
+-- the same of what they hold
+pub all_hold : {V C : Type 0} (ds : ℕ → Draw) (f g : Parts V) (workers : List (Working C)) (n : ℕ) (new : Working C) → n < length workers → KeepsRecords ds g new
+    → ((other : Working C) → KeepsRecords ds f other → KeepsRecords ds g other) → AllHold ds f workers → AllHold ds g (set workers n new)
+all_hold ds f g workers n new inside here others all k d within = elim (cases_eq k n) [
+  | inl same ↦ subst (λ (k : ℕ). KeepsRecords ds g (get_or (set workers n new) k d)) (sym same)
+      (subst (λ (w : Working _). KeepsRecords ds g w) (sym (get_or-set_same workers n new d inside)) here)
+  | inr other ↦ subst (λ (w : Working _). KeepsRecords ds g w) (sym (get_or-set_other workers n k new d other))
+      (others (get_or workers k d) (all k d (let long = length-set workers n new in omega (arith, long, within))))
 ]

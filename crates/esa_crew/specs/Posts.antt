@@ -3,6 +3,7 @@ use Rattle.std.specs.Prelude.{◌≡◌, ℕ, ◌<◌, List, length, slice_index
 use Rattle.esa_envelope.specs.declared.keys.Keys.{Keys}
 use Rattle.esa_params.specs.Sizes.{Sizes}
 use Rattle.esa_spec.specs.Draws.{Draw}
+use Rattle.esa_floor.specs.Keeping.{HoldsChunks, HoldsRecords}
 use Rattle.esa_floor.specs.Parts.{Parts}
 use Rattle.esa_floor.specs.Workers.{IsOfFloor, WorkerStands}
 use Rattle.esa_floor.specs.Working.{IsReady, Working}
@@ -25,6 +26,14 @@ AreMembers ds target_lists f workers = (k : ℕ) (w : Working _) → k < length 
 
 abbrev pub ArePosts : {V C : Type 0} → (ℕ → Draw) → (C → ℕ → ℕ → List ℕ) → Parts V → List (Working C) → Type 0
 ArePosts ds target_lists f workers = (k : ℕ) (w : Working _) → k < length workers → IsPost ds target_lists f k (slice_index_or workers k w)
+
+-- each worker holds the records of what it read, and the chunks of what it exchanged
+pub record KeepsRecords {V C : Type 0} (ds : ℕ → Draw) (f : Parts V) (w : Working C) : Type 0 where
+  pub records : HoldsRecords f w
+  pub chunks : HoldsChunks ds f w
+
+abbrev pub AllHold : {V C : Type 0} → (ℕ → Draw) → Parts V → List (Working C) → Type 0
+AllHold ds f workers = (k : ℕ) (w : Working _) → k < length workers → KeepsRecords ds f (slice_index_or workers k w)
 
 -- the worker was made for a plan, with this number, keys and coins
 pub record IsNewWorker {C : Type 0} (coins : C) (p : Sizes) (outer run : Keys) (place : ℕ) (w : Working C) : Type 0 where

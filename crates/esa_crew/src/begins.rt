@@ -1,9 +1,10 @@
 //! How a crew begins an attempt.
 
 ghost use Rattle.std.specs.Prelude.{◌≡◌, ◌<◌, [], length};
+ghost use Rattle.esa_floor.specs.Keeping.{QueuesHold};
 ghost use Rattle.esa_floor.specs.Parts.{begun_as};
 ghost use Rattle.esa_floor.specs.Standing.{Stands, turns_made};
-ghost use Rattle.esa_crew.specs.Posts.{AreMembers, ArePosts};
+ghost use Rattle.esa_crew.specs.Posts.{AllHold, AreMembers, ArePosts};
 
 use esa_device::Device;
 use esa_floor::{Floor, Told, Worker};
@@ -24,6 +25,8 @@ pub fn begin<V: Device, G: Told, C: Coins>(
     ensures fresh { turns_made floor.new ≡ [] }
     ensures posts { ArePosts G.draws C.target_list floor.new workers.new }
     ensures each { length workers.new ≡ length workers.old }
+    ensures hold { AllHold G.draws floor.new workers.new }
+    ensures queues { QueuesHold G.draws floor.new }
 {
     floor.begin(attempt);
     for place in 0..workers.len() {

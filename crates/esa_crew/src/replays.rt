@@ -5,10 +5,11 @@ ghost use Rattle.esa_params.specs.Sizes.{ArePlanned};
 ghost use Rattle.esa_spec.specs.Completion.{completed};
 ghost use Rattle.esa_spec.specs.Traces.{asked};
 ghost use Rattle.esa_spec.specs.Turns.{next};
+ghost use Rattle.esa_floor.specs.Keeping.{QueuesHold};
 ghost use Rattle.esa_floor.specs.Marks.{roots_of};
 ghost use Rattle.esa_floor.specs.Standing.{Stands, attempt_begun, turns_made};
 ghost use Rattle.esa_floor.specs.Working.{Working};
-ghost use Rattle.esa_crew.specs.Posts.{ArePosts, IsPost};
+ghost use Rattle.esa_crew.specs.Posts.{AllHold, ArePosts, KeepsRecords, IsPost};
 ghost use Rattle.esa_crew.specs.Replays.{IsReplayed};
 
 use esa_device::Device;
@@ -34,6 +35,9 @@ fn step<V: Device, G: Told, C: Coins>(floor: &mut Floor<V, G>, worker: &mut Work
     ensures post { IsPost G.draws C.target_list floor.new worker.old.number worker.new }
     ensures others { (number : ℕ) (other : Working C) → number ≢ worker.old.number
         → IsPost G.draws C.target_list floor.old number other → IsPost G.draws C.target_list floor.new number other }
+    ensures holds { KeepsRecords G.draws floor.old worker.old → QueuesHold G.draws floor.old → KeepsRecords G.draws floor.new worker.new }
+    ensures others_hold { (other : Working C) → KeepsRecords G.draws floor.old other → KeepsRecords G.draws floor.new other }
+    ensures queues { KeepsRecords G.draws floor.old worker.old → QueuesHold G.draws floor.old → QueuesHold G.draws floor.new }
 {
     let _ = floor.turn(worker);
     worker.prepare();
@@ -61,6 +65,8 @@ fn step_of<V: Device, G: Told, C: Coins>(
         ++ option_to_list (asked floor.old.plan (attempt_begun floor.old) (next floor.old.plan.b (turns_made floor.old) number)) }
     ensures posts { ArePosts G.draws C.target_list floor.new workers.new }
     ensures each { length workers.new ≡ length workers.old }
+    ensures hold { AllHold G.draws floor.old workers.old → QueuesHold G.draws floor.old → AllHold G.draws floor.new workers.new }
+    ensures queues { AllHold G.draws floor.old workers.old → QueuesHold G.draws floor.old → QueuesHold G.draws floor.new }
 {
     let worker = &mut workers[number as usize];
     step(floor, worker);
@@ -122,6 +128,8 @@ pub fn replay<V: Device, G: Told, C: Coins>(
     ensures attempt { floor.new.attempt ≡ floor.old.attempt }
     ensures posts { ArePosts G.draws C.target_list floor.new workers.new }
     ensures each { length workers.new ≡ length workers.old }
+    ensures hold { AllHold G.draws floor.old workers.old → QueuesHold G.draws floor.old → AllHold G.draws floor.new workers.new }
+    ensures queues { AllHold G.draws floor.old workers.old → QueuesHold G.draws floor.old → QueuesHold G.draws floor.new }
 {
     let plan = floor.plan();
     for made in 0..most_turns(&plan, turns) {

@@ -1,4 +1,5 @@
 mod Acting
+pub mod Chunking
 mod Counting
 mod Dealing
 mod Exchanging
@@ -7,7 +8,7 @@ mod Holding
 mod Keeping
 mod Making
 mod Opening
-mod Queueing
+pub mod Queueing
 pub mod Resting
 mod Rounding
 mod Sealing

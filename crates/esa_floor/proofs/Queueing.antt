@@ -1,8 +1,10 @@
 -- The queues hold the records of the places that wait for their targets, turn after turn.
 use Rattle.std.proofs.Common.{◌≡◌, ◌≢◌, ℕ, suc, ◌-◌, ◌<◌, List, [], ◌∷◌, ◌++◌, length, map, take, drop, Option, Some, None, refl, sym, ap, ◌∙◌, subst, arith}
-use Rattle.std.proofs.lemmas.List.{drop-map, length-append, map-append}
+use Rattle.std.proofs.Math.Seq.{drop-nil}
+use Rattle.std.proofs.lemmas.List.{drop-map, get_or-replicate, length-append, map-append}
 use Rattle.std.proofs.lemmas.List.FromFn.{get_or-map-range_with_len}
 use Rattle.esa_envelope.specs.declared.keys.Keys.{Keys}
+use Rattle.esa_laws.proofs.HistoryLaws.{latest-owner}
 use Rattle.esa_laws.proofs.LineLaws.{queued-push}
 use Rattle.esa_laws.proofs.MapLaws.{chosen-map}
 use Rattle.esa_params.specs.Form.{envelope_length}
@@ -18,7 +20,7 @@ use Rattle.esa_stash.specs.Stash.{Held, exchanged, queue_at, rest}
 use Rattle.esa_floor.specs.Exchanges.{AreOf}
 use Rattle.esa_floor.specs.Keeping.{AreRecords, Deals, HasInput, HoldsRecords, IsDealt, IsInput, QueuesHold}
 use Rattle.esa_floor.specs.Logging.{noted_of}
-use Rattle.esa_floor.specs.Parts.{Parts}
+use Rattle.esa_floor.specs.Parts.{Parts, begun_as}
 use Rattle.esa_floor.specs.Private.{item_opened}
 use Rattle.esa_floor.specs.Standing.{IsAt, attempt_begun, turns_made}
 use Rattle.esa_floor.specs.Workers.{IsOfFloor, WorkerStands}
@@ -36,7 +38,7 @@ Waits p d record_of o held i = queue_at held i ≡ map record_of (queued p d o (
 module _ (p : Sizes) (d : Draw) (record_of : ℕ → Item) (o : List ℕ) (j : ℕ) (held : Held) (counts targets : List ℕ) (items : List Item)
     (of : AreOf p held counts) (is : targets ≡ d.targets j) (came : items ≡ map record_of (places_of p j))
   where
-    coming_is : (i : ℕ) → chosen i targets items ≡ map record_of (chosen_places p d i j)
+    pub coming_is : (i : ℕ) → chosen i targets items ≡ map record_of (chosen_places p d i j)
     coming_is i =
         ap (λ (ts : List ℕ). chosen i ts items) is ∙ ap (chosen i (d.targets j)) came ∙ chosen-map record_of i (d.targets j) (places_of p j)
 
@@ -154,3 +156,11 @@ module _ {V : Type 0} (f new : Parts V) (run : Keys) (a : ℕ) (e : Event) (chun
             (sym (ap (λ (k : ℕ). k - 1) (begun_on faults ds f n worker after same refl)))
             (subst (λ (H : List ℕ). Waits f.plan (ds (attempt_begun f)) record_of (order f.plan.b H) new.stash i)
             (sym (turns_are faults ds f n worker after same refl)) more))
+
+-- when an attempt is begun, nothing waits
+pub queues_begun : {V : Type 0} (ds : ℕ → Draw) (f : Parts V) (attempt : ℕ) → QueuesHold ds (begun_as f attempt)
+queues_begun ds f attempt record_of input some goes i inside =
+    get_or-replicate f.plan.b i [] [] inside
+    ∙ sym (ap (λ (h : List ℕ). map record_of (queued f.plan (ds (attempt_begun (begun_as f attempt))) (order f.plan.b h) (length (order f.plan.b h)) i))
+    (latest-owner f.plan.workers f.history)
+    ∙ ap (map record_of) (drop-nil _))

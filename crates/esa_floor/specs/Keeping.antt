@@ -1,5 +1,5 @@
 -- What a floor and its workers keep of the records of the input.
-use Rattle.std.specs.Prelude.{◌≡◌, ◌≢◌, ℕ, ◌<◌, List, length, map, take, None}
+use Rattle.std.specs.Prelude.{◌≡◌, ◌≢◌, ℕ, ◌<◌, ◌≤◌, ◌==◌, List, length, map, take, count_by, flat_map, None}
 use Rattle.esa_device.specs.Logs.{Carried, IsFaithful, Took}
 use Rattle.esa_device.specs.Recording.{Recorded}
 use Rattle.esa_envelope.specs.declared.keys.Keys.{Keys}
@@ -9,11 +9,12 @@ use Rattle.esa_params.specs.Slots.{at, number_of, plain_length}
 use Rattle.esa_params.specs.declared.slot.Region.TheVariants.{Input}
 use Rattle.esa_report.specs.declared.item.Item.{Item}
 use Rattle.esa_spec.specs.Draws.{Draw}
-use Rattle.esa_spec.specs.Lines.{queued}
+use Rattle.esa_spec.specs.Lines.{chunk, queued}
+use Rattle.esa_spec.specs.Places.{exchange_of}
 use Rattle.esa_spec.specs.Turns.{order}
 use Rattle.esa_spec.specs.declared.event.Event.{Event}
 use Rattle.esa_spec.specs.declared.event.Event.TheVariants.{Claim, Read, Exchange, Write, Done, Idle}
-use Rattle.esa_stash.specs.Stash.{exchanged, queue_at}
+use Rattle.esa_stash.specs.Stash.{chunks, exchanged, padded, queue_at}
 use Rattle.esa_vault.specs.Seals.{sealed_block}
 use Rattle.esa_floor.specs.Exchanges.{AreOf}
 use Rattle.esa_floor.specs.Parts.{Parts}
@@ -73,3 +74,25 @@ QueuesHold ds f =
     (record_of : ℕ → Item) → HasInput f record_of → f.attempt ≢ None → f.stop ≡ None → (i : ℕ) → i < f.plan.b
     → queue_at f.stash i
     ≡ map record_of (queued f.plan (ds (attempt_begun f)) (order f.plan.b (turns_made f)) (length (order f.plan.b (turns_made f))) i)
+
+-- the chunks of bucket j in an attempt with this order of exchanges: for each target the records of their places, with
+-- dummies behind them
+pub record AreChunks (p : Sizes) (d : Draw) (record_of : ℕ → Item) (o : List ℕ) (j : ℕ) (chunks : List Item) : Type 0 where
+  pub exchanged : 1 ≤ count_by (λ k. k == j) o
+  pub items : chunks ≡ flat_map (λ i. padded p.c (map record_of (chunk p d o (exchange_of o j) i))) (below p.b)
+
+-- from its exchange to the end of its round, a worker holds the chunks of its bucket, while no turn of the attempt has
+-- failed
+abbrev pub HoldsChunks : {V C : Type 0} → (ℕ → Draw) → Parts V → Working C → Type 0
+HoldsChunks ds f w =
+    (record_of : ℕ → Item) → HasInput f record_of → f.attempt ≢ None → f.stop ≡ None → 3 ≤ w.phase → w.bucket < f.plan.b
+    → AreChunks f.plan (ds (attempt_begun f)) record_of (order f.plan.b (turns_made f)) w.bucket w.buffers.chunks
+
+-- what a turn with this event that did not fail leaves its worker
+abbrev pub Leaves : {V C : Type 0} → Event → Parts V → Working C → Working C → Type 0
+Leaves (Claim j) f old new = new.phase ≡ 1
+Leaves (Read j) f old new = new.phase ≡ 2
+Leaves (Exchange j) f old new = (new.bucket ≡ j) × (new.buffers.chunks ≡ chunks f.stash (handed_by old.buffers j))
+Leaves (Write j i) f old new = (3 ≤ old.phase) × (new.bucket ≡ old.bucket) × (new.buffers.chunks ≡ old.buffers.chunks)
+Leaves Done f old new = new.phase ≡ 1
+Leaves Idle f old new = f.plan.b ≤ new.bucket

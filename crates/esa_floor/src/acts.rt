@@ -5,6 +5,7 @@ ghost use Rattle.esa_params.specs.Form.{envelope_length};
 ghost use Rattle.esa_params.specs.Sizes.{size};
 ghost use Rattle.esa_params.specs.Slots.{access_of, at, item_length, number_of};
 ghost use Rattle.esa_spec.specs.Traces.{chunk_slot};
+ghost use Rattle.esa_stash.specs.Stash.{chunks as chunks_of};
 ghost use Rattle.esa_vault.specs.Placed.{IsSpelled};
 ghost use Rattle.esa_vault.specs.Seals.{opens};
 ghost use Rattle.esa_floor.specs.Acts.{StopsExchanging, StopsReading, StopsWriting, answered, one_more};
@@ -55,6 +56,7 @@ pub(crate) fn exchange<C: Coins>(
     requires items { worker.old.stage ≡ Stage.Items }
     requires plan { exchanger.old.plan ≡ worker.old.buffers.plan }
     requires spelled { All (All (IsSpelled (item_length worker.old.buffers.plan.form))) exchanger.old.stash.queues }
+    ensures chunks { result ≡ None → worker.new.buffers.chunks ≡ chunks_of exchanger.old.stash (handed_by worker.old.buffers worker.old.bucket) }
     ensures stops { StopsExchanging exchanger.old exchanger.new worker.old.bucket (handed_by worker.old.buffers worker.old.bucket) result }
     ensures worker { result ≡ None → worker.new ≡ record worker.old { phase = 3; stage = Stage.Chunks; buffers = record worker.old.buffers { chunks = worker.new.buffers.chunks } } }
     ensures kept { worker.new ≡ moved worker.old worker.new }

@@ -6,13 +6,13 @@ ghost use Rattle.esa_params.specs.Slots.{access_of, at, greatest_trace};
 ghost use Rattle.esa_spec.specs.Draws.{drawn};
 ghost use Rattle.esa_spec.specs.Traces.{asked, chunk_slot};
 ghost use Rattle.esa_spec.specs.Turns.{held, next, next_phase};
-ghost use Rattle.esa_stash.specs.Stash.{empty_stash, padded, queue_at, without};
+ghost use Rattle.esa_stash.specs.Stash.{chunks as chunks_of, empty_stash, padded, queue_at, without};
 ghost use Rattle.esa_floor.specs.Acts.{answer_in, answer_of, counted_after};
-ghost use Rattle.esa_floor.specs.Keeping.{Deals, HoldsRecords, IsDealt, OpensTo, QueuesHold};
+ghost use Rattle.esa_floor.specs.Keeping.{Deals, HoldsChunks, HoldsRecords, IsDealt, Leaves, OpensTo, QueuesHold};
 ghost use Rattle.esa_floor.specs.Logging.{noted_of, read_of, write_of};
 ghost use Rattle.esa_floor.specs.Marks.{mark_of, roots_of};
 ghost use Rattle.esa_floor.specs.Workers.{IsInRound, IsOfFloor, WorkerStands, moved};
-ghost use Rattle.esa_floor.specs.Working.{IsReady, Working, passed};
+ghost use Rattle.esa_floor.specs.Working.{IsReady, Working, handed_by, passed};
 ghost use Rattle.esa_floor.specs.Parts.{begun_as, count_at, ended_as, no_counts, nothing_counted, with_entry};
 ghost use Rattle.esa_floor.specs.Standing.{IsAtWork, Stands, attempt_begun, turns_made};
 
@@ -403,6 +403,7 @@ impl<V: Device, G: Told> Floor<V, G> {
         ensures stands { IsAtWork V.faults G.draws (with_entry self.new worker.old.number) (attempt_begun self.old) }
         ensures answer { result ≡ answer_of (next self.old.plan.b (turns_made self.old) worker.old.number) self.new.stop }
         ensures floor { self.new ≡ record self.old { stash = self.new.stash; counts = self.new.counts; stop = self.new.stop } }
+        ensures chunks { self.new.stop ≡ None → worker.new.buffers.chunks ≡ chunks_of self.old.stash (handed_by worker.old.buffers worker.old.bucket) }
         ensures dealt { self.new.stop ≡ None → IsDealt (C.target_list worker.old.coins) worker.old.bucket self.old self.new worker.old }
         ensures worker { self.new.stop ≡ None → worker.new ≡ record worker.old { phase = 3; stage = Stage.Chunks; buffers = record worker.old.buffers { chunks = worker.new.buffers.chunks } } }
         ensures kept { worker.new ≡ moved worker.old worker.new }
@@ -473,6 +474,7 @@ impl<V: Device, G: Told> Floor<V, G> {
         ensures few { length self.new.recorder.trace ≤ length self.old.recorder.trace + 1 }
         ensures access { self.new.recorder.trace ≡ self.old.recorder.trace ++ option_to_list (asked self.old.plan (attempt_begun self.old) (next self.old.plan.b (turns_made self.old) worker.old.number)) }
         ensures holds { HoldsRecords self.new worker.new }
+        ensures leaves { self.new.stop ≡ None → Leaves (next self.old.plan.b (turns_made self.old) worker.old.number) self.old worker.old worker.new }
         ensures deals { self.new.stop ≡ None → Deals (C.target_list worker.old.coins) (next self.old.plan.b (turns_made self.old) worker.old.number) self.old self.new worker.old }
         ensures log { self.new.recorder.log ≡ self.old.recorder.log ++ noted_of self.old.plan worker.old.run (attempt_begun self.old) (next self.old.plan.b (turns_made self.old) worker.old.number) self.new.stop self.new.recorder.last worker.old.buffers.chunks }
         ensures round { self.new.stop ≡ None → IsInRound self.old.plan.b (turns_made self.old ++ worker.old.number ∷ []) worker.new }
@@ -514,6 +516,7 @@ impl<V: Device, G: Told> Floor<V, G> {
         ensures few { length self.new.recorder.trace ≤ length self.old.recorder.trace + 1 }
         ensures access { self.new.recorder.trace ≡ self.old.recorder.trace ++ option_to_list (asked self.old.plan (attempt_begun self.old) (next self.old.plan.b (turns_made self.old) worker.old.number)) }
         ensures holds { HoldsRecords self.new worker.new }
+        ensures leaves { self.new.stop ≡ None → Leaves (next self.old.plan.b (turns_made self.old) worker.old.number) self.old worker.old worker.new }
         ensures deals { self.new.stop ≡ None → Deals (C.target_list worker.old.coins) (next self.old.plan.b (turns_made self.old) worker.old.number) self.old self.new worker.old }
         ensures log { self.new.recorder.log ≡ self.old.recorder.log ++ noted_of self.old.plan worker.old.run (attempt_begun self.old) (next self.old.plan.b (turns_made self.old) worker.old.number) self.new.stop self.new.recorder.last worker.old.buffers.chunks }
         ensures round { self.new.stop ≡ None → IsInRound self.old.plan.b (turns_made self.old ++ worker.old.number ∷ []) worker.new }
@@ -541,6 +544,7 @@ impl<V: Device, G: Told> Floor<V, G> {
         ensures few { length self.new.recorder.trace ≤ length self.old.recorder.trace + 1 }
         ensures access { self.old.attempt ≢ None → self.old.stop ≡ None → self.new.recorder.trace ≡ self.old.recorder.trace ++ option_to_list (asked self.old.plan (attempt_begun self.old) (next self.old.plan.b (turns_made self.old) worker.old.number)) }
         ensures holds { HoldsRecords self.new worker.new }
+        ensures leaves { self.old.attempt ≢ None → self.old.stop ≡ None → self.new.stop ≡ None → Leaves (next self.old.plan.b (turns_made self.old) worker.old.number) self.old worker.old worker.new }
         ensures deals { self.old.attempt ≢ None → self.old.stop ≡ None → self.new.stop ≡ None → Deals (C.target_list worker.old.coins) (next self.old.plan.b (turns_made self.old) worker.old.number) self.old self.new worker.old }
         ensures log { self.old.attempt ≢ None → self.old.stop ≡ None → self.new.recorder.log ≡ self.old.recorder.log ++ noted_of self.old.plan worker.old.run (attempt_begun self.old) (next self.old.plan.b (turns_made self.old) worker.old.number) self.new.stop self.new.recorder.last worker.old.buffers.chunks }
         ensures later { self.old.stop ≢ None → self.new ≡ self.old }
@@ -593,6 +597,9 @@ impl<V: Device, G: Told> Floor<V, G> {
         ensures holds { HoldsRecords self.new worker.new }
         ensures others_hold { (other : Working C) → HoldsRecords self.old other → HoldsRecords self.new other }
         ensures queues { HoldsRecords self.old worker.old → QueuesHold G.draws self.old → QueuesHold G.draws self.new }
+        ensures chunks { HoldsRecords self.old worker.old → QueuesHold G.draws self.old → HoldsChunks G.draws self.old worker.old
+            → HoldsChunks G.draws self.new worker.new }
+        ensures others_chunks { (other : Working C) → HoldsChunks G.draws self.old other → HoldsChunks G.draws self.new other }
     {
         let turn = self.take(worker);
         self.history.push_reserved(worker.number());

@@ -1,6 +1,9 @@
 -- One worker more has begun.
-use Rattle.std.proofs.Common.{◌<◌, length, length-set, ◌∙◌, arith}
-use Rattle.esa_crew.proofs.Beginning.{members_more, none_made, posts_more}
+use Rattle.std.proofs.Common.{◌<◌, length, length-set, sym, ◌∙◌, subst, arith}
+use Rattle.esa_floor.specs.Keeping.{QueuesHold}
+use Rattle.esa_floor.specs.Parts.{Parts}
+use Rattle.esa_floor.proofs.Queueing.{queues_begun}
+use Rattle.esa_crew.proofs.Beginning.{holds_more, members_more, none_made, posts_more}
 use Rattle.esa_crew.proofs.begins.begin.Goals as goal
 
 pub loop-place-preserved : goal.loop-place-preserved
@@ -16,6 +19,7 @@ loop-place-preserved g c =
     record {
       posts = posts_more g.G.Told.draws g.C.Coins.target_list f c.begin.new.self c.args.attempt c.begin.ensures.begun workers n c.index-workers-place.result new inside inv.members
           c.begin-in-loop-place.ensures inv.posts;
+      hold = holds_more g.G.Told.draws c.begin.new.self c.args.attempt workers n c.index-workers-place.result new inside c.begin-in-loop-place.ensures inv.hold;
       members = members_more g.G.Told.draws g.C.Coins.target_list f c.begin.new.self c.args.attempt c.begin.ensures.begun workers n c.index-workers-place.result new inside inv.members
           c.begin-in-loop-place.ensures;
       each = length-set workers n new ∙ each;
@@ -23,3 +27,13 @@ loop-place-preserved g c =
 
 pub returns-clause-fresh : goal.returns-clause-fresh
 returns-clause-fresh g c = none_made g.G.Told.draws g.C.Coins.target_list c.args.floor.now c.begin.new.self c.args.attempt c.begin.ensures.begun
+
+pub returns-clause-hold : goal.returns-clause-hold
+returns-clause-hold g c = λ k w within.
+    let each = c.loop-place.invariant.each in
+    let past = c.loop-place-test.false in
+    c.loop-place.invariant.hold k w (omega (arith, within, each, past))
+
+pub returns-clause-queues : goal.returns-clause-queues
+returns-clause-queues g c =
+    subst (λ (x : Parts _). QueuesHold g.G.Told.draws x) (sym c.begin.ensures.begun) (queues_begun g.G.Told.draws c.args.floor.now c.args.attempt)

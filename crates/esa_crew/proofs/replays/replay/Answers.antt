@@ -103,6 +103,8 @@ loop-made-preserved g c =
       stands = done.stands;
       posts = done.posts;
       each = done.each ∙ inv.each;
+      hold = λ all queues. done.hold (inv.hold all queues) (inv.queues all queues);
+      queues = λ all queues. done.queues (inv.hold all queues) (inv.queues all queues);
       origin = done.origin ∙ inv.origin;
       attempt = done.attempt ∙ inv.attempt;
       begun = done.begun ∙ inv.begun;
@@ -129,3 +131,15 @@ returns-clause-replayed g c =
     replayed (p g at) (d g at) c.args.turns.now c.loop-made.made (omega (arith, last)) (some g at) c.requires.numbers inv.unfinished (a g at)
     c.args.floor.now c.loop-made.floor inv.history inv.trace
     (λ unbroken. at_last (p g at) (d g at) c.args.turns.now c.loop-made.made last (some g at) c.requires.numbers)
+
+pub returns-then-is_over-clause-hold : goal.returns-then-is_over-clause-hold
+returns-then-is_over-clause-hold g c = c.loop-made.invariant.hold
+
+pub returns-then-is_over-clause-queues : goal.returns-then-is_over-clause-queues
+returns-then-is_over-clause-queues g c = c.loop-made.invariant.queues
+
+pub returns-clause-hold : goal.returns-clause-hold
+returns-clause-hold g c = c.loop-made.invariant.hold
+
+pub returns-clause-queues : goal.returns-clause-queues
+returns-clause-queues g c = c.loop-made.invariant.queues

@@ -3,9 +3,10 @@ use Rattle.std.proofs.Common.{◌≡◌, ℕ, ◌<◌, ◌++◌, false, length, 
 use Rattle.esa_spec.specs.Completion.{completed}
 use Rattle.esa_spec.specs.Traces.{spread}
 use Rattle.esa_spec.specs.Verdicts.{is_finished}
+use Rattle.esa_floor.specs.Keeping.{QueuesHold}
 use Rattle.esa_floor.specs.Marks.{roots_of}
 use Rattle.esa_floor.specs.Standing.{Stands, attempt_begun, turns_made}
-use Rattle.esa_crew.specs.Posts.{ArePosts}
+use Rattle.esa_crew.specs.Posts.{AllHold, ArePosts}
 use Rattle.esa_crew.proofs.replays.replay.Given as goal
 
 abbrev pub invariant-loop-made : goal.invariant-loop-made
@@ -17,6 +18,8 @@ invariant-loop-made g l =
       stands : Stands g.V.Device.faults g.G.Told.plan g.G.Told.draws l.floor;
       posts : ArePosts g.G.Told.draws g.C.Coins.target_list l.floor l.workers;
       each : length l.workers ≡ length l.initial.workers;
+      hold : AllHold g.G.Told.draws l.initial.floor l.initial.workers → QueuesHold g.G.Told.draws l.initial.floor → AllHold g.G.Told.draws l.floor l.workers;
+      queues : AllHold g.G.Told.draws l.initial.floor l.initial.workers → QueuesHold g.G.Told.draws l.initial.floor → QueuesHold g.G.Told.draws l.floor;
       origin : roots_of l.floor ≡ roots_of l.initial.floor;
       attempt : l.floor.attempt ≡ l.initial.floor.attempt;
       begun : attempt_begun l.floor ≡ a;

@@ -1,5 +1,6 @@
 -- The worker stands after its turn and its private work, and so do the others.
-use Rattle.std.proofs.Common.{sym, ap, ◌∙◌}
+use Rattle.std.proofs.Common.{sym, ap, ◌∙◌, subst}
+use Rattle.esa_floor.specs.Keeping.{HoldsChunks, HoldsRecords}
 use Rattle.esa_floor.specs.Working.{Working}
 use Rattle.esa_crew.proofs.Posting.{of_on, of_same, turns_on}
 use Rattle.esa_crew.proofs.replays.step.Goals as goal
@@ -37,3 +38,19 @@ returns-clause-others g c = λ number other apart post. record {
   ready = post.ready;
   stands = c.turn.ensures.others other (λ same. apart (sym post.number ∙ same)) post.stands;
 }
+
+pub returns-clause-holds : goal.returns-clause-holds
+returns-clause-holds g c = λ holds queues. record {
+  records = subst (λ (x : Working _). HoldsRecords c.turn.new.self x) (sym c.prepare.ensures.kept) c.turn.ensures.holds;
+  chunks = subst (λ (x : Working _). HoldsChunks g.G.Told.draws c.turn.new.self x) (sym c.prepare.ensures.kept)
+      (c.turn.ensures.chunks holds.records queues holds.chunks);
+}
+
+pub returns-clause-others_hold : goal.returns-clause-others_hold
+returns-clause-others_hold g c = λ other holds. record {
+  records = c.turn.ensures.others_hold other holds.records;
+  chunks = c.turn.ensures.others_chunks other holds.chunks;
+}
+
+pub returns-clause-queues : goal.returns-clause-queues
+returns-clause-queues g c = λ holds queues. c.turn.ensures.queues holds.records queues

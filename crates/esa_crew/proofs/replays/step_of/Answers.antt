@@ -5,7 +5,7 @@ use Rattle.esa_spec.specs.Traces.{asked}
 use Rattle.esa_spec.specs.Turns.{next}
 use Rattle.esa_floor.specs.Standing.{attempt_begun, turns_made}
 use Rattle.esa_crew.specs.Posts.{IsPost}
-use Rattle.esa_crew.proofs.Posting.{posts_on}
+use Rattle.esa_crew.proofs.Posting.{all_hold, posts_on}
 use Rattle.esa_crew.proofs.replays.step_of.Goals as goal
 
 pub returns-clause-access : goal.returns-clause-access
@@ -24,3 +24,12 @@ returns-clause-posts g c =
     posts_on g.G.Told.draws g.C.Coins.target_list f c.step.new.floor c.args.workers.now c.args.number c.step.new.worker c.requires.number c.requires.posts
     (subst (λ (k : ℕ). IsPost g.G.Told.draws g.C.Coins.target_list c.step.new.floor k c.step.new.worker) number c.step.ensures.post)
     (λ k other apart post. c.step.ensures.others k other (λ same. apart (same ∙ number)) post)
+
+pub returns-clause-hold : goal.returns-clause-hold
+returns-clause-hold g c = λ all queues.
+    all_hold g.G.Told.draws c.args.floor.now c.step.new.floor c.args.workers.now c.args.number c.step.new.worker c.requires.number
+    (c.step.ensures.holds (all c.args.number c.index-workers-number.result c.requires.number) queues) c.step.ensures.others_hold all
+
+pub returns-clause-queues : goal.returns-clause-queues
+returns-clause-queues g c = λ all queues.
+    c.step.ensures.queues (all c.args.number c.index-workers-number.result c.requires.number) queues

@@ -6,7 +6,7 @@ use Rattle.esa_params.specs.declared.slot.Access.{Access}
 use Rattle.esa_spec.specs.Traces.{asked}
 use Rattle.esa_spec.specs.declared.event.Event.{Event}
 use Rattle.esa_device.specs.Logs.{Carried}
-use Rattle.esa_floor.specs.Keeping.{Deals}
+use Rattle.esa_floor.specs.Keeping.{Deals, Leaves}
 use Rattle.esa_floor.specs.Logging.{noted_of}
 use Rattle.esa_floor.specs.Parts.{Parts}
 use Rattle.esa_floor.specs.Standing.{attempt_begun, turns_made}
@@ -124,3 +124,26 @@ returns-then-bucket-b-clause-deals g c = λ runs.
     let held_is = c.requires.held more in
     let idle = next_is_idle f.plan.b (turns_made f) w.number (λ first. more (sym c.requires.phase ∙ first)) (omega (arith, held_is, bucket_is, b_is, none)) in
     subst (λ (e : Event). Deals (g.C.Coins.target_list w.coins) e f f w) (sym idle) refl
+
+pub returns-then-phase-eq0-clause-leaves : goal.returns-then-phase-eq0-clause-leaves
+returns-then-phase-eq0-clause-leaves g c = λ runs.
+    let f = c.args.self.now in
+    let w = c.args.worker.now in
+    let first = c.requires.phase ∙ sym c.phase.ensures ∙ c.if-phase-eq0.true in
+    let one = ap (λ (x : Working _). x.phase) c.claim.ensures.worker in
+    at_first f.plan.b (turns_made f) w.number (λ (e : Event). Leaves e f w c.claim.new.worker) (λ j. one) one first
+
+pub returns-then-bucket-b-clause-leaves : goal.returns-then-bucket-b-clause-leaves
+returns-then-bucket-b-clause-leaves g c = λ runs.
+    let f = c.args.self.now in
+    let w = c.args.worker.now in
+    let b_is : c.b.result ≡ f.plan.b = c.b.ensures.value ∙ ap (λ (p : Sizes). p.b) (c.plan.ensures ∙ ap (λ (f : Parts _). f.plan) c.self.view_is) in
+    let phase_is = c.phase.ensures in
+    let bucket_is = c.bucket.ensures in
+    let none = c.if-bucket-b.true in
+    let later = c.if-phase-eq0.false in
+    let more : w.phase ≢ 0 = λ first. absurd (omega (arith, phase_is, later, first)) in
+    let held_is = c.requires.held more in
+    let same = ap (λ (x : Working _). x.bucket) c.pass.ensures.worker in
+    let idle = next_is_idle f.plan.b (turns_made f) w.number (λ first. more (sym c.requires.phase ∙ first)) (omega (arith, held_is, bucket_is, b_is, none)) in
+    subst (λ (e : Event). Leaves e f w c.pass.new.worker) (sym idle) (omega (arith, same, none, bucket_is, b_is))

@@ -5,7 +5,7 @@ use Rattle.esa_params.specs.Sizes.{Sizes}
 use Rattle.esa_spec.specs.Traces.{asked}
 use Rattle.esa_spec.specs.declared.event.Event.{Event}
 use Rattle.esa_spec.specs.declared.event.Event.TheVariants.{Write}
-use Rattle.esa_floor.specs.Keeping.{Deals}
+use Rattle.esa_floor.specs.Keeping.{Deals, Leaves}
 use Rattle.esa_floor.specs.Logging.{noted_of}
 use Rattle.esa_floor.specs.Parts.{Parts}
 use Rattle.esa_floor.specs.Standing.{attempt_begun, turns_made}
@@ -160,3 +160,34 @@ returns-clause-deals g c = λ runs.
     subst (λ (e : Event). Deals (g.C.Coins.target_list w.coins) e f c.write.new.self w)
     (sym (next_writes f.plan.b (turns_made f) w.number w.bucket c.requires.held c.requires.bucket (omega (arith, phase, is, first, second, later))))
     (ap (λ (x : Parts _). x.stash) c.write.ensures.floor)
+
+pub returns-then-phase-eq1-clause-leaves : goal.returns-then-phase-eq1-clause-leaves
+returns-then-phase-eq1-clause-leaves g c = λ runs.
+    let f = c.args.self.now in
+    let w = c.args.worker.now in
+    let first = c.requires.phase ∙ sym c.phase-phase.ensures ∙ c.if-phase-eq1.true in
+    subst (λ (e : Event). Leaves e f w c.read.new.worker)
+    (sym (next_reads f.plan.b (turns_made f) w.number w.bucket c.requires.held c.requires.bucket first)) (ap (λ (x : Working _). x.phase) (c.read.ensures.worker runs))
+
+pub returns-then-phase-eq2-clause-leaves : goal.returns-then-phase-eq2-clause-leaves
+returns-then-phase-eq2-clause-leaves g c = λ runs.
+    let f = c.args.self.now in
+    let w = c.args.worker.now in
+    let is = sym c.phase-phase.ensures ∙ c.if-phase-eq2.true in
+    subst (λ (e : Event). Leaves e f w c.exchange.new.worker)
+    (sym (next_exchanges f.plan.b (turns_made f) w.number w.bucket c.requires.held c.requires.bucket (c.requires.phase ∙ is)))
+    (ap (λ (x : Working _). x.bucket) (c.exchange.ensures.worker runs), c.exchange.ensures.chunks runs)
+
+pub returns-clause-leaves : goal.returns-clause-leaves
+returns-clause-leaves g c = λ runs.
+    let f = c.args.self.now in
+    let w = c.args.worker.now in
+    let is = c.phase-phase.ensures in
+    let first = c.if-phase-eq1.false in
+    let second = c.if-phase-eq2.false in
+    let later = c.requires.later in
+    let phase = c.requires.phase in
+    let least : 3 ≤ w.phase = omega (arith, is, first, second, later) in
+    subst (λ (e : Event). Leaves e f w c.write.new.worker)
+    (sym (next_writes f.plan.b (turns_made f) w.number w.bucket c.requires.held c.requires.bucket (omega (arith, phase, is, first, second, later))))
+    (least, ap (λ (x : Working _). x.bucket) (c.write.ensures.worker runs), ap (λ (x : Working _). x.buffers.chunks) (c.write.ensures.worker runs))

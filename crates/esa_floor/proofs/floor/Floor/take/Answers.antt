@@ -95,3 +95,6 @@ returns-in-Some-clause-holds g c = λ record_of input some runs second inside.
 
 pub returns-in-None-clause-deals : goal.returns-in-None-clause-deals
 returns-in-None-clause-deals g c = λ some before runs. c.act.ensures.deals runs
+
+pub returns-in-None-clause-leaves : goal.returns-in-None-clause-leaves
+returns-in-None-clause-leaves g c = λ some before runs. c.act.ensures.leaves runs

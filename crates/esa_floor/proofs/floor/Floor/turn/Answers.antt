@@ -1,10 +1,11 @@
 -- The mark does not fall, and other workers stand as before.
 use Rattle.std.proofs.Common.{◌≡◌, ◌≢◌, ℕ, ◌∷◌, ◌++◌, List, [], sym, ap, ◌∙◌, subst, arith}
 use Rattle.esa_spec.specs.Turns.{next}
-use Rattle.esa_floor.specs.Keeping.{HoldsRecords, QueuesHold}
+use Rattle.esa_floor.specs.Keeping.{HoldsChunks, HoldsRecords, QueuesHold}
 use Rattle.esa_floor.specs.Parts.{Parts}
 use Rattle.esa_floor.specs.Standing.{attempt_begun, turns_made}
 use Rattle.esa_floor.specs.Working.{Working}
+use Rattle.esa_floor.proofs.Chunking.{chunks_on, others_on as others_hold_on}
 use Rattle.esa_floor.proofs.Queueing.{held_on, queues_on}
 use Rattle.esa_floor.proofs.Resting.{begun_on, mark_grows, others_on}
 use Rattle.esa_floor.proofs.floor.Floor.turn.Goals as goal
@@ -101,3 +102,41 @@ returns-clause-queues g c = λ holds queues.
     turn.kept c.requires.of.run turn.idle turn.later turn.log record_of
     g.V.Device.faults g.G.Told.draws (g.C.Coins.target_list w.coins) w.number room worker w c.requires.stands.state c.requires.of c.requires.worker
     turn.deals holds queues)
+
+pub returns-clause-chunks : goal.returns-clause-chunks
+returns-clause-chunks g c = λ holds queues before.
+    let f = c.args.self.now in
+    let w = c.args.worker.now in
+    let v = c.take-turn.new.worker in
+    let few = c.requires.of.number in
+    let worker : w.number ≢ f.plan.workers = λ same. absurd (omega (arith, same, few)) in
+    let turn = c.take-turn.ensures in
+    let new = c.take-turn.new.self in
+    let room = c.push_reserved.new.self.cap in
+    let longer : c.push_reserved.new.self.items ≡ f.history ++ w.number ∷ [] =
+    c.push_reserved.ensures.items ∙ ap (λ (xs : List ℕ). xs ++ c.number.result ∷ []) (ap (λ (x : Parts _). x.history) (c.self.view_is ∙ turn.kept))
+    ∙ ap (λ (k : ℕ). f.history ++ k ∷ []) (c.number.ensures ∙ ap (λ (x : Working _). x.number) turn.moved) in
+    subst (λ (x : Parts _). HoldsChunks g.G.Told.draws x v)
+    (ap (λ (xs : List ℕ). record new { history = xs; room = room }) (sym longer)
+    ∙ ap (λ (x : Parts _). record x { history = c.push_reserved.new.self.items; room = room }) (sym c.self.view_is))
+    (λ record_of. chunks_on f new w.run (attempt_begun f) (next f.plan.b (turns_made f) w.number) w.buffers.chunks
+    turn.kept c.requires.of.run turn.idle turn.later turn.log record_of g.V.Device.faults g.G.Told.draws w.number room worker
+    (g.C.Coins.target_list w.coins) w v c.requires.stands.state c.requires.of c.requires.worker turn.deals turn.leaves holds queues before)
+
+pub returns-clause-others_chunks : goal.returns-clause-others_chunks
+returns-clause-others_chunks g c = λ other before.
+    let f = c.args.self.now in
+    let w = c.args.worker.now in
+    let few = c.requires.of.number in
+    let worker : w.number ≢ f.plan.workers = λ same. absurd (omega (arith, same, few)) in
+    let turn = c.take-turn.ensures in
+    let new = c.take-turn.new.self in
+    let room = c.push_reserved.new.self.cap in
+    let longer : c.push_reserved.new.self.items ≡ f.history ++ w.number ∷ [] =
+    c.push_reserved.ensures.items ∙ ap (λ (xs : List ℕ). xs ++ c.number.result ∷ []) (ap (λ (x : Parts _). x.history) (c.self.view_is ∙ turn.kept))
+    ∙ ap (λ (k : ℕ). f.history ++ k ∷ []) (c.number.ensures ∙ ap (λ (x : Working _). x.number) turn.moved) in
+    subst (λ (x : Parts _). HoldsChunks g.G.Told.draws x other)
+    (ap (λ (xs : List ℕ). record new { history = xs; room = room }) (sym longer)
+    ∙ ap (λ (x : Parts _). record x { history = c.push_reserved.new.self.items; room = room }) (sym c.self.view_is))
+    (λ record_of. others_hold_on f new w.run (attempt_begun f) (next f.plan.b (turns_made f) w.number) w.buffers.chunks
+    turn.kept c.requires.of.run turn.idle turn.later turn.log record_of g.V.Device.faults g.G.Told.draws w.number room worker other before)
