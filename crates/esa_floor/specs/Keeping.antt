@@ -43,8 +43,8 @@ OpensTo p run a j text old new =
     (sealed : List ℕ) → IsFaithful p new.log → Took p (number_of p (at Input j)) (sealed_block p run (at Input j) a sealed) old.log
     → take (plain_length p Input j) text ≡ sealed
 
--- from its read to its exchange, a worker holds envelopes of the records of its bucket, while no turn of the attempt has
--- failed
+-- from its read to its exchange, a worker holds envelopes of the records of its bucket, while no turn of the attempt
+-- has failed
 abbrev pub HoldsRecords : {V C : Type 0} → Parts V → Working C → Type 0
 HoldsRecords f w =
     (record_of : ℕ → Item) → HasInput f record_of → f.attempt ≢ None → f.stop ≡ None → w.phase ≡ 2 → w.bucket < f.plan.b
