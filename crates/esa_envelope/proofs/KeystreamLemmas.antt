@@ -67,17 +67,17 @@ ciphered-more key nonce place from into part at n fits same size before here =
     rw (written, before, here, take-add at n from) (sym parts)
 
 -- the word at a place was written behind the words before it
-pub ciphered-more_word : (key : List ℕ) (nonce first word : ℕ) (from into part : List ℕ) → 4 * word + 4 ≤ length from
+pub ciphered-more_word : (key : List ℕ) (nonce word : ℕ) (from into part : List ℕ) → 4 * word + 4 ≤ length from
     → length into ≡ length from → length part ≡ 4
-    → take (4 * word) into ≡ ciphered key nonce (4 * first) (take (4 * word) from)
-    → part ≡ ciphered key nonce (4 * (first + word)) (slice_range from (4 * word) (4 * word + 4))
-    → take (4 * (word + 1)) (put_mid (4 * word) (4 * word + 4 - 4 * word) into part)
-    ≡ ciphered key nonce (4 * first) (take (4 * (word + 1)) from)
-ciphered-more_word key nonce first word from into part fits same size before here =
+    → take (4 * word) into ≡ ciphered key nonce 0 (take (4 * word) from)
+    → part ≡ ciphered key nonce (4 * word) (slice_range from (4 * word) (4 * word + 4))
+    → take (4 * (word + 1)) (put_mid (4 * word) (4 * word + 4 - 4 * word) into part) ≡ ciphered key nonce 0 (take (4 * (word + 1)) from)
+ciphered-more_word key nonce word from into part fits same size before here =
     let n : 4 * word + 4 - 4 * word ≡ 4 = omega arith in
     let next : 4 * (word + 1) ≡ 4 * word + 4 = omega arith in
-    let place : 4 * (first + word) ≡ 4 * first + 4 * word = omega arith in
-    rw (next, n) (ciphered-more key nonce (4 * first) from into part (4 * word) 4 fits same size before (rw (n, place) at here))
+    let place : 4 * word ≡ 0 + 4 * word = omega arith in
+    rw (next, n) (ciphered-more key nonce 0 from into part (4 * word) 4 fits same size before
+    (rw n at here ∙ ap (λ at. ciphered key nonce at (take 4 (drop (4 * word) from))) place))
 
 -- what was written from a place on, up to the end
 pub put_mid-last : (at : ℕ) (into part : List ℕ) → put_mid at (length into - at) into part ≡ take at into ++ part
@@ -103,24 +103,23 @@ ciphered-split key nonce place bytes at inside =
     ∙ ap (λ size. ciphered key nonce place (take at bytes) ++ ciphered key nonce (place + size) (drop at bytes)) (length-take-le at bytes inside)
 
 -- the bytes behind the last whole word were written
-pub ciphered-last : (key : List ℕ) (nonce first word : ℕ) (from into part : List ℕ) → 4 * word ≤ length from
-    → take (4 * word) into ≡ ciphered key nonce (4 * first) (take (4 * word) from)
-    → part ≡ ciphered key nonce (4 * (first + word)) (drop (4 * word) from)
-    → put_mid (4 * word) (length into - 4 * word) into part ≡ ciphered key nonce (4 * first) from
-ciphered-last key nonce first word from into part fits before here =
-    let place : 4 * (first + word) ≡ 4 * first + 4 * word = omega arith in
+pub ciphered-last : (key : List ℕ) (nonce word : ℕ) (from into part : List ℕ) → 4 * word ≤ length from
+    → take (4 * word) into ≡ ciphered key nonce 0 (take (4 * word) from)
+    → part ≡ ciphered key nonce (4 * word) (drop (4 * word) from)
+    → put_mid (4 * word) (length into - 4 * word) into part ≡ ciphered key nonce 0 from
+ciphered-last key nonce word from into part fits before here =
+    let place : 4 * word ≡ 0 + 4 * word = omega arith in
     put_mid-last (4 * word) into part
     ∙ ap (λ front. front ++ part) before
-    ∙ ap (λ rest. ciphered key nonce (4 * first) (take (4 * word) from) ++ rest) (rw place at here)
-    ∙ sym (ciphered-split key nonce (4 * first) from (4 * word) fits)
+    ∙ ap (λ rest. ciphered key nonce 0 (take (4 * word) from) ++ rest) (here ∙ ap (λ at. ciphered key nonce at (drop (4 * word) from)) place)
+    ∙ sym (ciphered-split key nonce 0 from (4 * word) fits)
 
 -- one word of the generator, and the generator after it
-pub next_word-at : (key : List ℕ) (nonce first word value : ℕ) (words after : ChaCha) → first + word + 1 < 2 ^ 68
-    → words ≡ record { key = key_of key; stream = nonce; word_pos = first + word }
+pub next_word-at : (key : List ℕ) (nonce word value : ℕ) (words after : ChaCha) → word + 1 < 2 ^ 68
+    → words ≡ record { key = key_of key; stream = nonce; word_pos = word }
     → (value, after) ≡ next_word 10 words
-    → (value ≡ word_at 10 (key_of key) nonce (first + word))
-    × (after ≡ record { key = key_of key; stream = nonce; word_pos = first + (word + 1) })
-next_word-at key nonce first word value words after small place h =
+    → (value ≡ word_at 10 (key_of key) nonce word) × (after ≡ record { key = key_of key; stream = nonce; word_pos = word + 1 })
+next_word-at key nonce word value words after small place h =
     let step = rw place at h in
-    let pos : (first + word + 1) % 2 ^ 68 ≡ first + (word + 1) = omega arith in
+    let pos : (word + 1) % 2 ^ 68 ≡ word + 1 = omega arith in
     (ap (λ (p : ℕ × ChaCha). p.0) step, ap (λ (p : ℕ × ChaCha). p.1) step ∙ ap (λ at. record { key = key_of key; stream = nonce; word_pos = at }) pos)

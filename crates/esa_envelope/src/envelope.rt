@@ -62,7 +62,7 @@ pub fn seal_with(prepared: &Prepared, label: Label, nonce: u64, plain: &[u8], ou
 {
     let tag_at = NONCE + plain.len();
     put_u64(out, 0, nonce);
-    cipher(&prepared.keys.enc, nonce, 0, plain, &mut out[NONCE..tag_at]);
+    cipher(&prepared.keys.enc, nonce, plain, &mut out[NONCE..tag_at]);
     let tag = tag(prepared, label, &out[..tag_at]);
     out[tag_at..].copy_from_slice(&tag);
 }
@@ -89,7 +89,7 @@ pub fn unseal_with(prepared: &Prepared, label: Label, sealed: &[u8], out: &mut [
         return false;
     }
     let nonce = nonce_of(sealed);
-    cipher(&prepared.keys.enc, nonce, 0, &sealed[NONCE..tag_at], out);
+    cipher(&prepared.keys.enc, nonce, &sealed[NONCE..tag_at], out);
     true
 }
 

@@ -1,6 +1,6 @@
 //! The keystream of ChaCha20, and text under it.
 
-ghost use Rattle.std.specs.Prelude.{◌≡◌, ◌*◌, ◌≤◌, length, slice_index, EachIndex, bit_xor};
+ghost use Rattle.std.specs.Prelude.{◌≡◌, ◌≤◌, length, slice_index, EachIndex, bit_xor};
 ghost use Rattle.std.specs.Int.{w32, to_le_bytes};
 ghost use Rattle.rand_chacha.specs.ChaCha.{key_of};
 ghost use Rattle.esa_envelope.specs.Keystream.{ciphered};
@@ -12,13 +12,12 @@ use rand_core::utils::NextWord;
 /// The bytes of a word of the keystream.
 const WORD: usize = 4;
 
-/// Writes each byte of `from` xor its byte of the keystream into `into`, of the same length. The
-/// first byte meets the first byte of the keystream's word `first_word`.
-pub(crate) fn cipher(key: &[u8; 32], nonce: u64, first_word: u64, from: &[u8], into: &mut [u8])
+/// Writes each byte of `from` xor its byte of the keystream into `into`, of the same length.
+pub(crate) fn cipher(key: &[u8; 32], nonce: u64, from: &[u8], into: &mut [u8])
     requires { length into.old ≡ length from.now }
-    ensures { into.new ≡ ciphered key.now nonce (4 * first_word) from.now }
+    ensures { into.new ≡ ciphered key.now nonce 0 from.now }
 {
-    let mut words = words_from(key, nonce, first_word);
+    let mut words = keystream(key, nonce);
     let whole = from.len() / WORD;
     for word in 0..whole {
         let at = WORD * word;
@@ -32,13 +31,12 @@ pub(crate) fn cipher(key: &[u8; 32], nonce: u64, first_word: u64, from: &[u8], i
     mask_word(words.next_word(), &from[at..], &mut into[at..]);
 }
 
-/// The keystream of a key and a nonce, from its word `first_word` on.
-fn words_from(key: &[u8; 32], nonce: u64, first_word: u64) -> ChaCha20Rng
-    ensures { result ≡ record { key = key_of key.now; stream = nonce; word_pos = first_word } }
+/// The keystream of a key and a nonce.
+fn keystream(key: &[u8; 32], nonce: u64) -> ChaCha20Rng
+    ensures { result ≡ record { key = key_of key.now; stream = nonce; word_pos = 0 } }
 {
     let mut words = ChaCha20Rng::from_seed(*key);
     words.set_stream(nonce);
-    words.set_word_pos(u128::from(first_word));
     words
 }
 
