@@ -4,6 +4,5 @@ pub mod Fixed
 pub mod Laying
 pub mod Logs
 pub mod Memory
-pub mod Notes
 pub mod OnFile
 pub mod Recording

@@ -20,7 +20,6 @@ pub use device::{Device, LayRefused};
 pub use file::FileDevice;
 pub use fixed::FixedDevice;
 pub use laws::{beginnings_are_faithful, latest_writes_stay};
-pub use log::Log;
 pub use memory::{Flip, MemDevice};
 pub use recorder::Recorder;
 

@@ -1,66 +1,56 @@
-//! What the accesses to a device carried, for proofs alone.
+//! What a recorder notes of the accesses to its device, for proofs alone.
 
-ghost use Rattle.std.specs.Prelude.{◌≡◌, [], ◌∷◌, ◌++◌, List};
-ghost use Rattle.std.specs.Borrow.{ftrue};
-ghost use Rattle.esa_device.specs.Logs.{Carried};
+ghost use Rattle.std.specs.Prelude.{◌≡◌, [], ◌∷◌, ◌++◌};
+ghost use Rattle.esa_device.specs.Logs.{carried_by};
 
-use esa_outside::Failed as Fault;
+use esa_outside::{Failed, Log, Noted};
 use esa_params::Access;
 use std::marker::Model;
 use std::mem::size_of;
 
-/// The accesses that were made, each with the bytes that it gave or took, or that it failed. A log has no bytes, and
-/// does nothing when a program runs: only clauses read it.
-#[derive(Drop)]
-pub struct Log {
-    pub ghost entries: { List Carried },
+/// An access, and the bytes that it gave or took, unless it failed. No value of it is ever made: contracts see the
+/// entries of a log as such records.
+pub(crate) struct Carried {
+    access: Access,
+    bytes: Option<Vec<u8>>,
 }
 
-impl Model for Log {
-    ghost also_owns = { λ _. ftrue };
+impl Model for Carried {
+    ghost use Rattle.std.specs.Option.{option_map};
+    ghost use Rattle.esa_device.specs.Logs.{Carried};
+
+    ghost Value = { Carried };
+
+    ghost view = { λ carried. record { access = carried.access; bytes = option_map (λ bytes. bytes.items) carried.bytes } };
 }
 
-// It owns nothing.
-unsafe impl Send for Log {}
+const _: () = prove!(size_of::<Log<Carried>>() == 0);
 
-const _: () = prove!(size_of::<Log>() == 0);
-
-/// One access.
+/// An access that was made: how it ended, and the bytes that it gave or was given.
 #[derive(Clone, Copy, Drop)]
-enum Note<'a> {
-    /// It gave or took these bytes.
-    Done(Access, &'a [u8]),
-    /// It failed.
-    Failed(Access),
+struct Made<'a> {
+    access: Access,
+    done: Result<(), Failed>,
+    bytes: &'a [u8],
 }
 
-impl Log {
-    ghost use Rattle.esa_device.specs.Logs.{carried_by};
-    ghost use Rattle.esa_device.specs.Notes.{noted};
+impl<'a> Noted<Carried> for Made<'a> {
+    ghost entry = { λ made. carried_by made.access made.done made.bytes.now };
+}
 
-    /// Nothing was made yet.
-    pub(crate) fn new() -> Log
-        ensures { result.entries ≡ [] }
-    {
-        Log {}
-    }
-
-    /// The log with one note more.
-    #[inline(always)]
-    fn then(&self, _note: &Note<'_>) -> Log
-        ensures { result.entries ≡ self.now.entries ++ noted _note.now ∷ [] }
-    {
-        Log {}
-    }
-
-    /// The log once an access was made that ended so, with these bytes.
-    #[inline(always)]
-    pub(crate) fn after(&self, access: Access, done: Result<(), Fault>, bytes: &[u8]) -> Log
-        ensures { result.entries ≡ self.now.entries ++ carried_by access done bytes.now ∷ [] }
-    {
-        match done {
-            Ok(()) => self.then(&Note::Done(access, bytes)),
-            Err(Fault) => self.then(&Note::Failed(access)),
-        }
-    }
+/// The log once an access was made that ended so, with these bytes.
+#[inline(always)]
+pub(crate) fn after(
+    log: &Log<Carried>,
+    access: Access,
+    done: Result<(), Failed>,
+    bytes: &[u8],
+) -> Log<Carried>
+    ensures { result.entries ≡ log.now.entries ++ carried_by access done bytes.now ∷ [] }
+{
+    log.then(&Made {
+        access,
+        done,
+        bytes,
+    })
 }

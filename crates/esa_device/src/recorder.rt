@@ -9,8 +9,9 @@ ghost use Rattle.esa_device.specs.Laying.{Counted};
 ghost use Rattle.esa_device.specs.Logs.{Carried, IsBacked, carried_by};
 ghost use Rattle.esa_device.specs.Recording.{Names, number_in};
 
-use crate::{Device, LayRefused, Log};
-use esa_outside::Failed;
+use crate::log::{Carried, after};
+use crate::{Device, LayRefused};
+use esa_outside::{Failed, Log};
 use esa_params::{Access, Op, Plan, Slot};
 use std::alloc::Global;
 use std::marker::Model;
@@ -29,7 +30,7 @@ use std::marker::Model;
 pub struct Recorder<V: Device> {
     device: V,
     trace: Vec<Access>,
-    log: Log,
+    log: Log<Carried>,
     plan: Option<Plan>,
     block: Vec<u8>,
     kept: usize,
@@ -115,7 +116,7 @@ impl<V: Device> Recorder<V> {
         let number = self.number(access);
         self.trace.push_reserved(access);
         let done = self.device.read(number, out);
-        self.log = self.log.after(access, done, out);
+        self.log = after(&self.log, access, done, out);
         done?;
         self.kept = keep(&mut self.block, out);
         Ok(())
@@ -146,7 +147,7 @@ impl<V: Device> Recorder<V> {
         let number = self.number(access);
         self.trace.push_reserved(access);
         let done = self.device.write(number, bytes);
-        self.log = self.log.after(access, done, bytes);
+        self.log = after(&self.log, access, done, bytes);
         done
     }
 

@@ -207,7 +207,7 @@ fn laid_anew(rt: HostRuntime) -> Result<(), Fail> {
 fn a_folder_in_its_place(rt: HostRuntime) -> Result<(), Fail> {
     let name = "esa-device-test-folder";
     fs::create_dir(&rt, name)?;
-    let mut recorder = on_file(rt.clone()?, name)?;
+    let mut recorder = crossed(on_file(rt.clone()?, name)?);
     assert_eq!(rt; recorder.ready(&base()?), Err(LayRefused::Failed));
     assert_eq!(rt; recorder.faults(), 1);
     fs::remove_dir(&rt, name)?;

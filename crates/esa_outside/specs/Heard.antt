@@ -41,8 +41,11 @@ from_parts-to_parts (started name) = refl
 from_parts-to_parts (added name bytes) = refl
 from_parts-to_parts (printed text) = refl
 
-abbrev pub heard_code : Coded (List Event)
-heard_code =
-    coded_list (code_by Parts
+abbrev pub event_code : Coded Event
+event_code =
+    code_by Parts
     (coded⊎ (coded× (coded_list coded_ℕ) coded_ℕ) (coded⊎ (coded× (coded_list coded_ℕ) (coded× coded_ℕ (coded_list coded_ℕ))) (coded⊎ (coded_list coded_ℕ) (coded⊎ (coded× (coded_list coded_ℕ) (coded_list coded_ℕ)) (coded_list coded_ℕ)))))
-    to_parts from_parts from_parts-to_parts)
+    to_parts from_parts from_parts-to_parts
+
+abbrev pub heard_code : Coded (List Event)
+heard_code = coded_list event_code

@@ -4,7 +4,8 @@
 ghost use Rattle.std.specs.Prelude.{◌≡◌, [], None};
 ghost use Rattle.esa_outside.specs.Cause.{HasCause};
 
-use crate::log::{Log, Note};
+use crate::heard::{Event, Note};
+use crate::log::Log;
 use crate::{Cabinet, Failed, Printer};
 use std::fs::{File, OpenOptions};
 use std::io::{self, Read, Seek, SeekFrom, Write};
@@ -17,7 +18,7 @@ use std::rt::Files;
 pub struct HostCabinet<R> {
     rt: R,
     faults: u64,
-    heard: Log,
+    heard: Log<Event>,
 }
 
 impl<R> Model for HostCabinet<R> {
@@ -27,7 +28,7 @@ impl<R> Model for HostCabinet<R> {
 
     ghost coded = { account_code };
 
-    ghost view = { λ cabinet. record { faults = cabinet.faults; heard = cabinet.heard.events } };
+    ghost view = { λ cabinet. record { faults = cabinet.faults; heard = cabinet.heard.entries } };
 }
 
 impl<R: Files + Drop> HostCabinet<R> {
@@ -84,7 +85,7 @@ impl<R: Files + Drop> Cabinet for HostCabinet<R> {
 pub struct HostPrinter<R> {
     rt: R,
     faults: u64,
-    heard: Log,
+    heard: Log<Event>,
 }
 
 impl<R> Model for HostPrinter<R> {
@@ -94,7 +95,7 @@ impl<R> Model for HostPrinter<R> {
 
     ghost coded = { account_code };
 
-    ghost view = { λ printer. record { faults = printer.faults; heard = printer.heard.events } };
+    ghost view = { λ printer. record { faults = printer.faults; heard = printer.heard.entries } };
 }
 
 impl<R: Print + Drop> HostPrinter<R> {

@@ -3,10 +3,11 @@
 //! What a cabinet or a printer holds is told to contracts where the implementation can tell it, and a
 //! call gives up only where a count of faults rose, or where a told file is not there or ends before.
 //! `MemCabinet` and `MemPrinter` live in memory and tell all. `HostCabinet` and `HostPrinter` are the
-//! real ones, and tell nothing. Stands on esa_lists.
+//! real ones, and tell nothing. A `Log` keeps what was noted, for clauses alone. Stands on esa_lists.
 #![tactic(auto)]
 
 mod cabinet;
+mod heard;
 mod host;
 mod log;
 mod memory;
@@ -18,6 +19,7 @@ mod whole;
 
 pub use cabinet::Cabinet;
 pub use host::{HostCabinet, HostPrinter};
+pub use log::{Log, Noted};
 pub use memory::MemCabinet;
 pub use memory_printer::MemPrinter;
 pub use printer::Printer;

@@ -1,51 +1,44 @@
-//! The log of a cabinet or a printer. It exists only in proofs: it has no bytes, and its methods do nothing at run time.
+//! Logs, which exist only in proofs: a log has no bytes, and its methods do nothing at run time.
 
-ghost use Rattle.std.specs.Prelude.{◌≡◌, List, []};
+ghost use Rattle.std.specs.Prelude.{◌≡◌, [], ◌∷◌, ◌++◌, List};
+ghost use Rattle.std.specs.Coded.{coded_list};
 ghost use Rattle.std.specs.Borrow.{ftrue};
-ghost use Rattle.esa_outside.specs.Heard.{Event, heard_code};
 
-use std::marker::Model;
+use std::marker::{Model, PhantomData};
 
-/// What each call that did not fail gave or took.
+/// What was noted, in order. Its entries are what contracts see as values of `E`, of which none is ever made.
 #[derive(Drop)]
-pub(crate) struct Log {
-    ghost events: { List Event } by { heard_code },
+pub struct Log<E> {
+    of: PhantomData<E>,
+    pub ghost entries: { List E } by { coded_list E.code },
 }
 
-impl Model for Log {
+impl<E> Model for Log<E> {
     ghost also_owns = { λ _. ftrue };
 }
 
-/// A call that did not fail, as it is added to a log.
-#[derive(Clone, Copy, Drop)]
-pub(crate) enum Note<'a> {
-    /// The length of a file was told.
-    LengthOf(&'a str, u64),
-    /// Bytes of a file were given, from a place on.
-    PartOf(&'a str, u64, &'a [u8]),
-    /// A file was started.
-    Started(&'a str),
-    /// Bytes were added at a file's end.
-    Added(&'a str, &'a [u8]),
-    /// A text was printed with its newline.
-    Printed(&'a [u8]),
+// It owns nothing.
+unsafe impl<E> Send for Log<E> {}
+
+/// What a log takes note of.
+pub trait Noted<E> {
+    /// What is noted of it.
+    ghost entry: { Self → E };
 }
 
-impl Log {
-    ghost use Rattle.esa_outside.specs.Noted.{noted};
-
+impl<E> Log<E> {
     /// The log in which nothing is noted.
-    pub(crate) fn new() -> Log
-        ensures { result.events ≡ [] }
+    pub fn new() -> Log<E>
+        ensures { result.entries ≡ [] }
     {
-        Log {}
+        Log { of: PhantomData }
     }
 
-    /// The log with one call more.
+    /// The log with one entry more.
     #[inline(always)]
-    pub(crate) fn then(&self, _note: &Note<'_>) -> Log
-        ensures { result.events ≡ noted self.now.events _note.now }
+    pub fn then<N: Noted<E>>(&self, _note: &N) -> Log<E>
+        ensures { result.entries ≡ self.now.entries ++ N.entry _note.now ∷ [] }
     {
-        Log {}
+        Log { of: PhantomData }
     }
 }

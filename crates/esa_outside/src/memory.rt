@@ -12,7 +12,8 @@ ghost use Rattle.esa_outside.specs.Cause.{HasCause};
 ghost use Rattle.esa_outside.specs.Heard.{length_of, part_of, started as file_started, added as bytes_added, after};
 ghost use Rattle.esa_outside.specs.Told.{IsPart, EndsBefore, HoldsFront};
 
-use crate::log::{Log, Note};
+use crate::heard::{Event, Note};
+use crate::log::Log;
 use crate::schedule::Schedule;
 use crate::{Cabinet, Failed};
 use std::alloc::{AllocError, Global};
@@ -26,7 +27,7 @@ type File = (String, Vec<u8>);
 pub struct MemCabinet {
     files: Vec<File>,
     calls: Schedule,
-    heard: Log,
+    heard: Log<Event>,
 }
 
 impl Model for MemCabinet {
@@ -36,7 +37,7 @@ impl Model for MemCabinet {
 
     ghost coded = { cabinet_code };
 
-    ghost view = { λ a. record { files = files_of a.files.items; calls = a.calls; heard = a.heard.events } };
+    ghost view = { λ a. record { files = files_of a.files.items; calls = a.calls; heard = a.heard.entries } };
 }
 
 impl MemCabinet {

@@ -6,7 +6,8 @@ ghost use Rattle.esa_outside.specs.Cause.{HasCause};
 ghost use Rattle.esa_outside.specs.Heard.{printed as text_printed, after};
 ghost use Rattle.esa_outside.specs.Told.{line_of, AddsFront};
 
-use crate::log::{Log, Note};
+use crate::heard::{Event, Note};
+use crate::log::Log;
 use crate::schedule::Schedule;
 use crate::{Failed, Printer};
 use std::marker::Model;
@@ -16,7 +17,7 @@ use std::marker::Model;
 pub struct MemPrinter {
     printed: Vec<u8>,
     calls: Schedule,
-    heard: Log,
+    heard: Log<Event>,
 }
 
 impl Model for MemPrinter {
@@ -26,7 +27,7 @@ impl Model for MemPrinter {
 
     ghost coded = { printer_code };
 
-    ghost view = { λ a. record { printed = a.printed.items; calls = a.calls; heard = a.heard.events } };
+    ghost view = { λ a. record { printed = a.printed.items; calls = a.calls; heard = a.heard.entries } };
 }
 
 impl MemPrinter {
