@@ -6,6 +6,7 @@ use Rattle.std.proofs.lemmas.List.{length-append, length-map}
 use Rattle.std.proofs.lemmas.List.FromFn.{length-range_with_len}
 use Rattle.esa_laws.proofs.HistoryLaws.{begun-worker, latest-worker, length-lists, lists-worker}
 use Rattle.esa_laws.proofs.LengthLaws.{attempts-le, spread-le}
+use Rattle.esa_laws.proofs.Tests.{unequal}
 use Rattle.esa_outside.specs.Cause.{Rose}
 use Rattle.esa_params.specs.Sizes.{Sizes, below}
 use Rattle.esa_params.specs.Slots.{at, greatest_trace, slot_number}
@@ -16,9 +17,10 @@ use Rattle.esa_spec.specs.Histories.{begun, latest, lists}
 use Rattle.esa_spec.specs.Traces.{all_failed, attempts, good_attempt, load, shuffle_trace, spread, written_input}
 use Rattle.esa_spec.specs.Turns.{order}
 use Rattle.esa_vault.specs.Seals.{opens}
+use Rattle.esa_floor.specs.Acts.{WorksOn, one_more}
 use Rattle.esa_floor.specs.Marks.{code_of, mark_of}
 use Rattle.esa_floor.specs.Parts.{Parts, with_entry}
-use Rattle.esa_floor.specs.Standing.{Begins, EndsAs, EndsWith, IsAt, IsAtWork, IsOf, attempt_begun, items_in, lists_before, turns_made}
+use Rattle.esa_floor.specs.Standing.{Begins, EndsAs, EndsWith, IsAt, IsAtWork, IsOf, StopsAt, attempt_begun, items_in, lists_before, turns_made}
 use Rattle.esa_floor.specs.Workers.{IsInRound, WorkerStands}
 use Rattle.esa_floor.specs.Working.{Working}
 use Rattle.esa_floor.specs.declared.turn.Outcome.{Outcome}
@@ -38,6 +40,13 @@ none_or_some s never = subst There never tt
 pub ran : (s now : Option Stop) → (s ≢ None → now ≡ s) → now ≡ None → s ≡ None
 ran None now stays runs = refl
 ran (Some s) now stays runs = sym (stays (none_or_some s)) ∙ runs
+
+-- the turns stopped at the one behind so many
+pub stops_behind : {V : Type 0} (faults : V → ℕ) (ds : ℕ → Draw) (f : Parts V) (a before : ℕ) (s : Option Stop) → f.stop ≡ s → s ≢ None
+    → WorksOn faults ds f a before → StopsAt faults (ds a) a f before f.stop
+stops_behind faults ds f a before None is some works = absurd (some refl)
+stops_behind faults ds f a before (Some s) is some works =
+    subst (λ (k : ℕ). StopsAt faults (ds a) a f k f.stop) (works.1 ∙ ap (one_more before) is) works.0.stops
 
 -- attempts up to the last but one leave the rows of one attempt
 rows : (a n x : ℕ) → a < n → a * x + x ≤ n * x
@@ -183,3 +192,25 @@ mark_grows f g same ended stays =
     subst (λ (n : ℕ). mark_of f ≤ (if n == 0 then 0 else 8 * n + code_of g.outcome g.stop)) (sym same)
     (subst (λ (o : Option Outcome). mark_of f ≤ (if m == 0 then 0 else 8 * m + code_of o g.stop)) (sym ended)
     (of_code (m == 0) (8 * m + code_of f.outcome f.stop) (8 * m + code_of f.outcome g.stop) (let code = code_grows f.outcome f.stop g.stop stays in omega (arith, code))))
+
+code_few : (o : Option Outcome) (s : Option Stop) → code_of o s ≤ 6
+code_few (Some (outcome.Shuffled a)) s = omega arith
+code_few (Some outcome.Overflow) s = omega arith
+code_few (Some (outcome.DeviceFault number)) s = omega arith
+code_few (Some (outcome.Tampered number)) s = omega arith
+code_few (Some outcome.BatchFailed) s = omega arith
+code_few None None = omega arith
+code_few None (Some s) = omega arith
+
+of_more : (none : Bool) (m x y : ℕ) → x ≤ 6 → (if none then 0 else 8 * m + x) ≤ 8 * (m + 1) + y
+of_more true m x y few = omega arith
+of_more false m x y few = omega (arith, few)
+
+-- with one entry more of the owner
+pub mark_more : {V : Type 0} (f g : Parts V) → begun g.plan.workers g.history ≡ begun f.plan.workers f.history + 1 → mark_of f ≤ mark_of g
+mark_more f g more =
+    let m = begun f.plan.workers f.history in
+    let some : (m + 1 == 0) ≡ false = unequal (m + 1) 0 (λ none. absurd (omega (arith, none))) in
+    subst (λ (n : ℕ). mark_of f ≤ (if n == 0 then 0 else 8 * n + code_of g.outcome g.stop)) (sym more)
+    (subst (λ (none : Bool). mark_of f ≤ (if none then 0 else 8 * (m + 1) + code_of g.outcome g.stop)) (sym some)
+    (of_more (m == 0) m (code_of f.outcome f.stop) (code_of g.outcome g.stop) (code_few f.outcome f.stop)))
