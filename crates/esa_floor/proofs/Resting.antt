@@ -6,7 +6,6 @@ use Rattle.std.proofs.lemmas.List.{length-append, length-map}
 use Rattle.std.proofs.lemmas.List.FromFn.{length-range_with_len}
 use Rattle.esa_laws.proofs.HistoryLaws.{begun-worker, latest-worker, length-lists, lists-worker}
 use Rattle.esa_laws.proofs.LengthLaws.{attempts-le, spread-le}
-use Rattle.esa_laws.proofs.Tests.{unequal}
 use Rattle.esa_outside.specs.Cause.{Rose}
 use Rattle.esa_params.specs.Sizes.{Sizes, below}
 use Rattle.esa_params.specs.Slots.{at, greatest_trace, slot_number}
@@ -192,25 +191,3 @@ mark_grows f g same ended stays =
     subst (λ (n : ℕ). mark_of f ≤ (if n == 0 then 0 else 8 * n + code_of g.outcome g.stop)) (sym same)
     (subst (λ (o : Option Outcome). mark_of f ≤ (if m == 0 then 0 else 8 * m + code_of o g.stop)) (sym ended)
     (of_code (m == 0) (8 * m + code_of f.outcome f.stop) (8 * m + code_of f.outcome g.stop) (let code = code_grows f.outcome f.stop g.stop stays in omega (arith, code))))
-
-code_few : (o : Option Outcome) (s : Option Stop) → code_of o s ≤ 6
-code_few (Some (outcome.Shuffled a)) s = omega arith
-code_few (Some outcome.Overflow) s = omega arith
-code_few (Some (outcome.DeviceFault number)) s = omega arith
-code_few (Some (outcome.Tampered number)) s = omega arith
-code_few (Some outcome.BatchFailed) s = omega arith
-code_few None None = omega arith
-code_few None (Some s) = omega arith
-
-of_more : (none : Bool) (m x y : ℕ) → x ≤ 6 → (if none then 0 else 8 * m + x) ≤ 8 * (m + 1) + y
-of_more true m x y few = omega arith
-of_more false m x y few = omega (arith, few)
-
--- with one entry more of the owner
-pub mark_more : {V : Type 0} (f g : Parts V) → begun g.plan.workers g.history ≡ begun f.plan.workers f.history + 1 → mark_of f ≤ mark_of g
-mark_more f g more =
-    let m = begun f.plan.workers f.history in
-    let some : (m + 1 == 0) ≡ false = unequal (m + 1) 0 (λ none. absurd (omega (arith, none))) in
-    subst (λ (n : ℕ). mark_of f ≤ (if n == 0 then 0 else 8 * n + code_of g.outcome g.stop)) (sym more)
-    (subst (λ (none : Bool). mark_of f ≤ (if none then 0 else 8 * (m + 1) + code_of g.outcome g.stop)) (sym some)
-    (of_more (m == 0) m (code_of f.outcome f.stop) (code_of g.outcome g.stop) (code_few f.outcome f.stop)))

@@ -1,6 +1,6 @@
 -- A turn that fails: the turns stop at it, and the queues and the slots hold what the turns before it made.
-use Rattle.std.proofs.Common.{◌≡◌, ◌≢◌, ℕ, ◌+◌, ◌-◌, ◌*◌, ◌<◌, ◌≤◌, Bool, true, false, List, [], ◌∷◌, ◌++◌, length, map, Option, Some, None, refl, sym, ap, ◌∙◌, subst, arith, append-nil}
-use Rattle.std.specs.Prelude.{count_by, ◌==◌, ◌&&◌}
+use Rattle.std.proofs.Common.{◌≡◌, ◌≢◌, ℕ, ◌+◌, ◌-◌, ◌<◌, ◌≤◌, List, [], ◌∷◌, ◌++◌, length, map, Option, Some, None, refl, sym, ap, ◌∙◌, subst, arith, append-nil}
+use Rattle.std.specs.Prelude.{count_by}
 use Rattle.std.proofs.Math.Nat.{mod-lt}
 use Rattle.esa_device.specs.Logs.{Carried, Took}
 use Rattle.esa_device.proofs.LogLaws.{took-elsewhere, took-read}
@@ -17,7 +17,7 @@ use Rattle.esa_spec.specs.Turns.{events, held, is_write_at, next, next_phase, or
 use Rattle.esa_spec.specs.declared.event.Event.{Event}
 use Rattle.esa_spec.specs.declared.event.Event.TheVariants.{Claim, Read, Exchange, Write, Done, Idle}
 use Rattle.esa_stash.specs.Stash.{Held, queue_at}
-use Rattle.esa_floor.specs.Keeping.{AreChunksStored, HasInput, IsChunkStored, QueuesHold, QueuesHoldAfter, SlotsHold, SlotsHoldAfter, StopsAfter, chunk_block}
+use Rattle.esa_floor.specs.Keeping.{AreChunksStored, HasInput, QueuesHold, SlotsHold, StopsAfter, chunk_block}
 use Rattle.esa_floor.specs.Logging.{noted_of, read_of, write_of}
 use Rattle.esa_floor.specs.Parts.{Parts, with_entry}
 use Rattle.esa_floor.specs.Standing.{StopsAt, attempt_begun, turns_made}
@@ -96,7 +96,7 @@ module _ {V : Type 0} (f new : Parts V) (n room : ℕ) where
       (runs : w.run ≡ f.run)
       (idle : f.attempt ≡ None → new ≡ f) (later : f.stop ≢ None → new ≡ f)
       (noted : f.attempt ≢ None → f.stop ≡ None
-          → new.recorder.log ≡ f.recorder.log ++ noted_of f.plan w.run (attempt_begun f) (next f.plan.b (turns_made f) n) new.stop new.recorder.last w.buffers.chunks)
+      → new.recorder.log ≡ f.recorder.log ++ noted_of f.plan w.run (attempt_begun f) (next f.plan.b (turns_made f) n) new.stop new.recorder.last w.buffers.chunks)
     where
       abbrev now : ℕ
       now = attempt_begun f

@@ -40,7 +40,6 @@ use Rattle.esa_vault.specs.Seals.{sealed_block}
 use Rattle.esa_floor.specs.Keeping.{AreChunks, AreChunksStored, HasInput, HoldsChunks, IsChunkStored, Leaves, SlotsHold, chunk_block}
 use Rattle.esa_floor.specs.Logging.{noted_of, read_of, write_of}
 use Rattle.esa_floor.specs.Parts.{Parts, begun_as}
-use Rattle.esa_floor.specs.Private.{sealed_chunk}
 use Rattle.esa_floor.specs.Standing.{attempt_begun, turns_made}
 use Rattle.esa_floor.specs.Working.{Working}
 use Rattle.esa_floor.specs.declared.turn.Stop.{Stop}
@@ -211,7 +210,7 @@ module _ {V C : Type 0} (f new : Parts V) (n room : ℕ) (w v : Working C) (faul
     (runs : w.run ≡ f.run)
     (idle : f.attempt ≡ None → new ≡ f) (later : f.stop ≢ None → new ≡ f)
     (noted : f.attempt ≢ None → f.stop ≡ None
-        → new.recorder.log ≡ f.recorder.log ++ noted_of f.plan w.run (attempt_begun f) (next f.plan.b (turns_made f) n) new.stop new.recorder.last w.buffers.chunks)
+    → new.recorder.log ≡ f.recorder.log ++ noted_of f.plan w.run (attempt_begun f) (next f.plan.b (turns_made f) n) new.stop new.recorder.last w.buffers.chunks)
     (leaves : f.attempt ≢ None → f.stop ≡ None → new.stop ≡ None → Leaves (next f.plan.b (turns_made f) n) f w v)
     (holds : HoldsChunks ds f w) (before : SlotsHold ds f) (record_of : ℕ → Item)
   where

@@ -82,18 +82,21 @@ module _ {V : Type 0} (faults : V → ℕ) (ds : ℕ → Draw) (f : Parts V) (a 
         → r.trace ≡ f.recorder.trace ++ option_to_list (asked f.plan a (next f.plan.b h w)) → faults r.device ≡ faults f.recorder.device
         → IsSpread f.plan (ds a) (h ++ w ∷ []) held counts counted
         → WorksOn faults ds (turned f w r held counts counted None) a (length h)
-    stands_good r held counts counted more calm so_far = (record {
-      done = length h + 1;
-      attempt = at_work.attempt ∙ ap (λ (n : ℕ). n - 1) (sym begun_is);
-      some_begun = subst (λ (n : ℕ). 1 ≤ n) (sym begun_is) at_work.some_begun;
-      planned = at_work.planned;
-      earlier = ap (all_failed f.plan ds 0) lists_are ∙ at_work.earlier;
-      traced = traced_on r.trace (length h + 1) (latest f.plan.workers (f.history ++ w ∷ [])) (lists f.plan.workers (f.history ++ w ∷ [])) turns_are lists_are
-          (traced_more r.trace more ∙ ap (λ (g : List ℕ). (load f.plan ++ attempts f.plan ds 0 (lists_before f)) ++ spread f.plan (ds a) a g) (sym (whole (length h + 1) (omega arith))));
-      spread = subst (λ (g : List ℕ). IsSpread f.plan (ds a) g held counts counted)
-          (sym (ap (take (length h + 1)) turns_are ∙ whole (length h) (omega arith))) so_far;
-      stops = (let long = length-append h (w ∷ []) in let same = ap length turns_are in omega arith, calm ∙ all_made.1);
-    }, refl)
+    stands_good r held counts counted more calm so_far = (
+      record {
+        done = length h + 1;
+        attempt = at_work.attempt ∙ ap (λ (n : ℕ). n - 1) (sym begun_is);
+        some_begun = subst (λ (n : ℕ). 1 ≤ n) (sym begun_is) at_work.some_begun;
+        planned = at_work.planned;
+        earlier = ap (all_failed f.plan ds 0) lists_are ∙ at_work.earlier;
+        traced = traced_on r.trace (length h + 1) (latest f.plan.workers (f.history ++ w ∷ [])) (lists f.plan.workers (f.history ++ w ∷ [])) turns_are lists_are
+            (traced_more r.trace more ∙ ap (λ (g : List ℕ). (load f.plan ++ attempts f.plan ds 0 (lists_before f)) ++ spread f.plan (ds a) a g) (sym (whole (length h + 1) (omega arith))));
+        spread = subst (λ (g : List ℕ). IsSpread f.plan (ds a) g held counts counted)
+            (sym (ap (take (length h + 1)) turns_are ∙ whole (length h) (omega arith))) so_far;
+        stops = (let long = length-append h (w ∷ []) in let same = ap length turns_are in omega arith, calm ∙ all_made.1);
+      },
+      refl,
+    )
 
     front_before : take (length h) (latest f.plan.workers (f.history ++ w ∷ [])) ≡ h
     front_before = ap (take (length h)) turns_are ∙ take-append-le (length h) h (w ∷ []) (omega arith) ∙ take_all (length h) h (omega arith)
@@ -103,17 +106,20 @@ module _ {V : Type 0} (faults : V → ℕ) (ds : ℕ → Draw) (f : Parts V) (a 
         → r.trace ≡ f.recorder.trace ++ option_to_list (asked f.plan a (next f.plan.b h w))
         → StopsAt faults (ds a) a (turned f w r f.stash f.counts f.counted (Some stopped)) (length h) (Some stopped)
         → WorksOn faults ds (turned f w r f.stash f.counts f.counted (Some stopped)) a (length h)
-    failed r stopped more why = (record {
-      done = length h;
-      attempt = at_work.attempt ∙ ap (λ (n : ℕ). n - 1) (sym begun_is);
-      some_begun = subst (λ (n : ℕ). 1 ≤ n) (sym begun_is) at_work.some_begun;
-      planned = at_work.planned;
-      earlier = ap (all_failed f.plan ds 0) lists_are ∙ at_work.earlier;
-      traced = traced_on r.trace (length h) (latest f.plan.workers (f.history ++ w ∷ [])) (lists f.plan.workers (f.history ++ w ∷ [])) turns_are lists_are
-          (traced_more r.trace more ∙ ap (λ (g : List ℕ). (load f.plan ++ attempts f.plan ds 0 (lists_before f)) ++ spread f.plan (ds a) a g) (sym (whole (length h) (omega arith))));
-      spread = subst (λ (g : List ℕ). IsSpread f.plan (ds a) g f.stash f.counts f.counted) (sym front_before) spread_is;
-      stops = why;
-    }, refl)
+    failed r stopped more why = (
+      record {
+        done = length h;
+        attempt = at_work.attempt ∙ ap (λ (n : ℕ). n - 1) (sym begun_is);
+        some_begun = subst (λ (n : ℕ). 1 ≤ n) (sym begun_is) at_work.some_begun;
+        planned = at_work.planned;
+        earlier = ap (all_failed f.plan ds 0) lists_are ∙ at_work.earlier;
+        traced = traced_on r.trace (length h) (latest f.plan.workers (f.history ++ w ∷ [])) (lists f.plan.workers (f.history ++ w ∷ [])) turns_are lists_are
+            (traced_more r.trace more ∙ ap (λ (g : List ℕ). (load f.plan ++ attempts f.plan ds 0 (lists_before f)) ++ spread f.plan (ds a) a g) (sym (whole (length h) (omega arith))));
+        spread = subst (λ (g : List ℕ). IsSpread f.plan (ds a) g f.stash f.counts f.counted) (sym front_before) spread_is;
+        stops = why;
+      },
+      refl,
+    )
 
     at_end : take (length h) (h ++ w ∷ []) ≡ h
     at_end = take-append-le (length h) h (w ∷ []) (omega arith) ∙ take_all (length h) h (omega arith)
