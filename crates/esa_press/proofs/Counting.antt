@@ -53,7 +53,7 @@ module _ (p : Sizes) (d : Draw) (h counts tails : List ℕ) (counted : AreCounte
   exchange_in : (j : ℕ) → j < p.b → exchange_of o j < length o
   exchange_in j j_in = position-in (λ x. x == j) o (omega (arith, once p.b h j counted.all j_in))
 
-  chunk_few : (j : ℕ) → j < p.b → length (chunk p d o (exchange_of o j) i) ≤ p.c
+  pub chunk_few : (j : ℕ) → j < p.b → length (chunk p d o (exchange_of o j) i) ≤ p.c
   chunk_few j j_in =
       let es = batches p d o i in
       let there : exchange_of o j < length es = omega (arith, length-map o (chosen_places p d i), exchange_in j j_in) in

@@ -30,7 +30,7 @@ use Rattle.esa_report.specs.declared.item.Item.{Item}
 use Rattle.esa_spec.specs.Traces.{written_tail}
 use Rattle.esa_stash.specs.Stash.{Held, queue_at, without}
 use Rattle.esa_vault.specs.Traffic.{IsWritten}
-use Rattle.esa_press.specs.Drained.{AreDrained, DrainAnswer, DrainEnd, FailsAt, tail_block}
+use Rattle.esa_press.specs.Drained.{AreDrained, DrainAnswer, DrainEnd, FailsAt, failed_tail, stored_tail, tail_block}
 use Rattle.esa_press.specs.declared.halt.Halt.{Halt}
 use Rattle.esa_press.specs.declared.halt.Halt.TheVariants.{Verdict, Fault}
 use Rattle.esa_press.specs.Stepped.{AreCounted}
@@ -67,6 +67,7 @@ drained_none faults a f = record {
   empty = λ i i_in. absurd (omega arith);
   waits = λ i behind. refl;
   trace = sym (append-nil f.recorder.trace);
+  log = sym (append-nil f.recorder.log);
   room = omega arith;
   ready = refl;
   calm = refl;
@@ -137,6 +138,12 @@ module _ {V : Type 0} (told : V → Option (List (List ℕ))) (faults : V → �
             ∙ ap (λ (l : List Access). l ++ written_tail old.plan a t ∷ []) before.trace
             ∙ append_assoc old.recorder.trace (map (written_tail old.plan a) (below t)) (written_tail old.plan a t ∷ [])
             ∙ ap (λ (l : List Access). old.recorder.trace ++ l) (sym (map-range_with_len_more (written_tail old.plan a) 0 t t (omega arith)));
+        log =
+            written.recorded.log
+            ∙ ap (λ (q : List Item). r.log ++ record { access = written_tail old.plan a t; bytes = Some (sealed_records old.plan old.run (at Tail t) a old.plan.k q) } ∷ []) same_queue
+            ∙ ap (λ (l : List Carried). l ++ stored_tail old a t ∷ []) before.log
+            ∙ append_assoc old.recorder.log (map (stored_tail old a) (below t)) (stored_tail old a t ∷ [])
+            ∙ ap (λ (l : List Carried). old.recorder.log ++ l) (sym (map-range_with_len_more (stored_tail old a) 0 t t (omega arith)));
         room = let one = before.room in let other = written.recorded.room in omega (arith, one, other);
         ready = written.recorded.plan ∙ before.ready;
         calm = written.answer ∙ before.calm;
@@ -172,6 +179,10 @@ module _ {V : Type 0} (told : V → Option (List (List ℕ))) (faults : V → �
             ∙ ap (λ (l : List Access). l ++ written_tail old.plan a t ∷ []) before.trace
             ∙ append_assoc old.recorder.trace (map (written_tail old.plan a) (below t)) (written_tail old.plan a t ∷ [])
             ∙ ap (λ (l : List Access). old.recorder.trace ++ l) (sym (map-range_with_len_more (written_tail old.plan a) 0 t t (omega arith)));
+        log =
+            answer.3.recorded.log
+            ∙ ap (λ (l : List Carried). l ++ failed_tail old a t ∷ []) before.log
+            ∙ append_assoc old.recorder.log (map (stored_tail old a) (below t)) (failed_tail old a t ∷ []);
         room = let one = before.room in let other = answer.3.recorded.room in omega (arith, one, other);
         ready = answer.3.recorded.plan ∙ before.ready;
         others = answer.1 ∙ ap (λ (h : Held). record old { recorder = new.recorder; stash = h }) (sym stash);

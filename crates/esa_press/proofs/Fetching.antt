@@ -1,8 +1,8 @@
 -- Reads of an import, one after another.
-use Rattle.std.proofs.Common.{◌≡◌, ℕ, ◌+◌, ◌-◌, ◌*◌, ◌<◌, ◌≤◌, Bool, cond, List, [], ◌∷◌, ◌++◌, length, take, drop, map, sum, All, Option, Result, Ok, Err, OnOk, refl, sym, ap, ◌∙◌, subst, arith, append-nil, append_assoc, length-drop, suc, get_or}
+use Rattle.std.proofs.Common.{◌≡◌, ℕ, ◌+◌, ◌-◌, ◌*◌, ◌<◌, ◌≤◌, ◌≢◌, ◌⊎◌, inl, inr, Bool, cond, List, [], ◌∷◌, ◌++◌, length, take, drop, map, sum, All, Option, Some, Result, Ok, Err, OnOk, refl, sym, ap, ◌∙◌, subst, arith, append-nil, append_assoc, length-drop, suc, get_or}
 use Rattle.std.specs.Prelude.{slice_index, flat_map}
 use Rattle.std.proofs.lemmas.Bool.{lt-ltb, le-ltb}
-use Rattle.std.proofs.lemmas.List.Elements.{All-nil, All-push, All-append}
+use Rattle.std.proofs.lemmas.List.Elements.{All-nil, All-push, All-append, All-weaker}
 use Rattle.std.proofs.lemmas.List.FromFn.{map-range_with_len_more, take-map-range_with_len}
 use Rattle.std.proofs.lemmas.List.{drop_all, drop_at, length-take-le, take-append-drop, take_all}
 use borrow.Rule.Slice.PartMut.{put_mid}
@@ -13,12 +13,12 @@ use Rattle.esa_compress.specs.Held.{held_count}
 use Rattle.esa_press.proofs.Opened.{weight}
 use Rattle.esa_device.specs.Logs.{Carried, IsFaithful, Took}
 use Rattle.esa_device.specs.Recording.{Recorded}
-use Rattle.esa_device.proofs.LogLaws.{faithful-front, took-read}
+use Rattle.esa_device.proofs.LogLaws.{faithful-front, took-elsewhere, took-read}
 use Rattle.esa_envelope.specs.declared.keys.Keys.{Keys}
 use Rattle.esa_laws.proofs.Ranges.{below-add-one, map-below-same}
 use Rattle.esa_outside.specs.Cause.{Rose}
 use Rattle.esa_params.specs.Sizes.{Sizes, below}
-use Rattle.esa_params.specs.Slots.{access_of, at, number_of}
+use Rattle.esa_params.specs.Slots.{access_of, at, number_of, slot_number}
 use Rattle.esa_params.specs.declared.slot.Access.{Access}
 use Rattle.esa_params.specs.declared.slot.Op.{Op}
 use Rattle.esa_params.specs.declared.slot.Op.TheVariants.{Read as Reads}
@@ -30,11 +30,11 @@ use Rattle.esa_stash.specs.Dealing.{chunk_at}
 use Rattle.esa_stash.specs.Stash.{padded}
 use Rattle.esa_vault.specs.Placed.{IsSpelled}
 use Rattle.esa_vault.specs.Seals.{opens}
-use Rattle.esa_vault.specs.Traffic.{IsRead, ReadAnswer, given_by}
+use Rattle.esa_vault.specs.Traffic.{IsRead, OnGiven, ReadAnswer, given_by}
 use Rattle.esa_vault.specs.declared.fault.VaultFault.{VaultFault}
 use Rattle.esa_vault.specs.declared.fault.VaultFault.TheVariants.{Device, Tampered}
 use Rattle.esa_press.specs.Records.{sealed_records}
-use Rattle.esa_press.specs.Fetched.{FetchAnswer, GivesRecords, GoesOnReading, IsFetched, IsStored, part_slot}
+use Rattle.esa_press.specs.Fetched.{FetchAnswer, GivesAtLast, GivesRecords, GoesOnReading, IsFetched, IsStored, OnUnopened, part_slot}
 
 -- the parts of an import, and the reads of them
 module _ (p : Sizes) (a i : ℕ) where
@@ -75,13 +75,25 @@ reads_more old mid new last so_far read is = record {
 pub faithful_before : (p : Sizes) (old new : List Carried) → GoesOnReading old new → IsFaithful p new → IsFaithful p old
 faithful_before p old new on faithful = faithful-front p old on.more (subst (λ (l : List Carried). IsFaithful p l) on.longer faithful)
 
+-- an entry doesn't write the slot of this number
+abbrev pub Spares : Sizes → ℕ → Carried → Type 0
+Spares p number entry = (entry.access.op ≡ Reads) ⊎ (number ≢ slot_number p entry.access)
+
+-- what the latest write took stays, where what comes behind it doesn't write the slot
+pub took_over : (p : Sizes) (number : ℕ) (bytes : List ℕ) (log more : List Carried) → All (Spares p number) more → Took p number bytes log → Took p number bytes (log ++ more)
+took_over p number bytes log [] spared took = subst (λ (l : List Carried). Took p number bytes l) (sym (append-nil log)) took
+took_over p number bytes log (last ∷ more) spared took =
+    subst (λ (l : List Carried). Took p number bytes l) (append_assoc log (last ∷ []) more)
+    (took_over p number bytes (log ++ last ∷ []) more (λ k d inside. spared (suc k) d (omega arith)) (one (spared 0 last (omega arith))))
+  where
+    one : Spares p number last → Took p number bytes (log ++ last ∷ [])
+    one (inl reads) = took-read p number bytes log last reads took
+    one (inr other) = took-elsewhere p number bytes log last other took
+
 took_through : (p : Sizes) (number : ℕ) (bytes : List ℕ) (log more : List Carried) → All (λ (entry : Carried). entry.access.op ≡ Reads) more
     → Took p number bytes log → Took p number bytes (log ++ more)
-took_through p number bytes log [] reads took = subst (λ (l : List Carried). Took p number bytes l) (sym (append-nil log)) took
-took_through p number bytes log (last ∷ more) reads took =
-    subst (λ (l : List Carried). Took p number bytes l) (append_assoc log (last ∷ []) more)
-    (took_through p number bytes (log ++ last ∷ []) more (λ k d inside. reads (suc k) d (omega arith))
-    (took-read p number bytes log last (reads 0 last (omega arith)) took))
+took_through p number bytes log more reads =
+    took_over p number bytes log more (All-weaker (λ (entry : Carried). entry.access.op ≡ Reads) (Spares p number) (λ entry reading. inl reading) more reads)
 
 -- one read more
 module _ {V T : Type 0} (told : V → Option (List (List ℕ))) (faults : V → ℕ) (last_call : V → Option (Op × ℕ)) (p : Sizes) (slot : Slot) (a : ℕ) (opened : List ℕ → Bool)
@@ -113,7 +125,21 @@ module _ {V T : Type 0} (told : V → Option (List (List ℕ))) (faults : V → 
     log = reads_none old.log;
     room = omega arith;
     plan = refl;
+    given = tt;
     answer = (refl, refl);
+  }
+
+  given_more : (x made : ℕ) (first mid new : List Carried) (last bytes : List ℕ) (result : Result T VaultFault) → made ≡ x → GoesOnReading first mid
+      → new ≡ mid ++ record { access = read_part p a i x; bytes = given_by result bytes } ∷ [] → OnGiven result (last ≡ bytes)
+      → OnUnopened result (GivesAtLast (access_of p a Reads (part_slot p i made)) last first new)
+  given_more x made first mid new last bytes (Ok done) here so_far is same = tt
+  given_more x made first mid new last bytes (Err (Device number)) here so_far is same = tt
+  given_more x made first mid new last bytes (Err (Tampered number)) here so_far is same = record {
+    before = mid;
+    reads = so_far;
+    is = is
+        ∙ ap (λ (l : List ℕ). mid ++ record { access = read_part p a i x; bytes = Some l } ∷ []) (sym same)
+        ∙ ap (λ (n : ℕ). mid ++ record { access = read_part p a i n; bytes = Some last } ∷ []) (sym here);
   }
 
   answer_more : (x before mid now : ℕ) (last : List ℕ) (result : Result T VaultFault) → mid ≡ before
@@ -141,6 +167,7 @@ module _ {V T : Type 0} (told : V → Option (List (List ℕ))) (faults : V → 
         log = reads_more old.log mid.log new.log (record { access = read_part p a i x; bytes = given_by result bytes }) so_far.log refl read.recorded.log;
         room = let one = so_far.room in let other = read.recorded.room in omega (arith, one, other, before);
         plan = read.recorded.plan ∙ so_far.plan;
+        given = given_more x (x + 1 - 1) old.log mid.log new.log new.last bytes result (omega arith) so_far.log read.recorded.log read.given;
         answer = answer_more x (faults old.device) (faults mid.device) (faults new.device) new.last result so_far.answer.1 read.answer;
       }
 
@@ -163,6 +190,7 @@ module _ {V T : Type 0} (told : V → Option (List (List ℕ))) (faults : V → 
     log = fetched.log;
     room = fetched.room;
     plan = fetched.plan;
+    given = fetched.given;
     answer = fetched.answer;
   }
   fetched_bad m n old new (Tampered number) within fetched = record {
@@ -172,6 +200,7 @@ module _ {V T : Type 0} (told : V → Option (List (List ℕ))) (faults : V → 
     log = fetched.log;
     room = fetched.room;
     plan = fetched.plan;
+    given = fetched.given;
     answer = fetched.answer;
   }
 

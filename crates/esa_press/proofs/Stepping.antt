@@ -195,6 +195,7 @@ module _ {V : Type 0} (faults : V → ℕ) (p : Sizes) (keys : Keys) (d : Draw) 
           (
             answer.answer.2,
             refl,
+            refl,
             subst (λ (n : ℕ). opens p keys (part_slot p i x) a n new.last ≡ false) (part_items p d h counts tails counted i i_in a x inside) answer.answer.3,
             answer.answer.4,
           ),

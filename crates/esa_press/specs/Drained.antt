@@ -1,6 +1,6 @@
 -- The drain of a target: what it makes of the floor and of the press.
-use Rattle.std.specs.Prelude.{◌≡◌, ℕ, ◌+◌, ◌<◌, ◌≤◌, List, [], ◌++◌, length, map, find, slice_set, Option, Some, None, Result, Ok, Err}
-use Rattle.esa_device.specs.Logs.{Took}
+use Rattle.std.specs.Prelude.{◌≡◌, ℕ, ◌+◌, ◌<◌, ◌≤◌, List, [], ◌∷◌, ◌++◌, length, map, find, slice_set, Option, Some, None, Result, Ok, Err}
+use Rattle.esa_device.specs.Logs.{Carried, Took}
 use Rattle.esa_device.specs.Recording.{Recorded}
 use Rattle.esa_floor.specs.Parts.{Parts}
 use Rattle.esa_outside.specs.Cause.{Rose}
@@ -22,6 +22,13 @@ use Rattle.esa_press.specs.declared.halt.Halt.TheVariants.{Verdict, Fault}
 -- the tail of the target i on a floor: the block of what is queued for it
 abbrev pub tail_block : {V : Type 0} → Parts V → ℕ → ℕ → List ℕ
 tail_block f attempt i = sealed_records f.plan f.run (at Tail i) attempt f.plan.k (queue_at f.stash i)
+
+-- what the log has of the write of that block, and of one that failed
+abbrev pub stored_tail : {V : Type 0} → Parts V → ℕ → ℕ → Carried
+stored_tail f attempt i = record { access = written_tail f.plan attempt i; bytes = Some (tail_block f attempt i) }
+
+abbrev pub failed_tail : {V : Type 0} → Parts V → ℕ → ℕ → Carried
+failed_tail f attempt i = record { access = written_tail f.plan attempt i; bytes = None }
 
 -- a floor whose queue of the target i was emptied, with this recorder
 abbrev pub spilled : {V : Type 0} → Parts V → ℕ → Recorded V → Parts V
@@ -46,6 +53,7 @@ pub record AreDrained {V : Type 0} (faults : V → ℕ) (attempt t : ℕ) (old n
   pub empty : (i : ℕ) → i < t → queue_at new.stash i ≡ []
   pub waits : (i : ℕ) → t ≤ i → queue_at new.stash i ≡ queue_at old.stash i
   pub trace : new.recorder.trace ≡ old.recorder.trace ++ map (written_tail old.plan attempt) (below t)
+  pub log : new.recorder.log ≡ old.recorder.log ++ map (stored_tail old attempt) (below t)
   pub room : old.recorder.room ≡ new.recorder.room + t
   pub ready : new.recorder.plan ≡ old.recorder.plan
   pub calm : faults new.recorder.device ≡ faults old.recorder.device
@@ -56,6 +64,7 @@ pub record AreDrained {V : Type 0} (faults : V → ℕ) (attempt t : ℕ) (old n
 pub record FailsAt {V : Type 0} (faults : V → ℕ) (attempt i number : ℕ) (old new : Parts V) : Type 0 where
   pub slot : number ≡ number_of old.plan (at Tail i)
   pub trace : new.recorder.trace ≡ old.recorder.trace ++ map (written_tail old.plan attempt) (below (i + 1))
+  pub log : new.recorder.log ≡ old.recorder.log ++ (map (stored_tail old attempt) (below i) ++ failed_tail old attempt i ∷ [])
   pub room : old.recorder.room ≡ new.recorder.room + (i + 1)
   pub ready : new.recorder.plan ≡ old.recorder.plan
   pub others : new ≡ record old { recorder = new.recorder; stash = new.stash }

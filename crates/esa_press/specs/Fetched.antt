@@ -1,11 +1,12 @@
 -- Blocks that are read and opened to items, one by one and for a whole import.
-use Rattle.std.specs.Prelude.{◌≡◌, ℕ, ◌+◌, ◌<◌, ◌≤◌, nat_lt, if◌then◌else◌, false, List, ◌++◌, All, length, take, slice_index, Result, Ok, Err, OnOk}
+use Rattle.std.specs.Prelude.{◌≡◌, ℕ, ◌+◌, ◌-◌, ◌<◌, ◌≤◌, nat_lt, if◌then◌else◌, false, Some, List, [], ◌∷◌, ◌++◌, All, length, take, slice_index, Result, Ok, Err, OnOk}
 use Rattle.esa_device.specs.Logs.{Carried, IsFaithful, Took}
 use Rattle.esa_device.specs.Recording.{Recorded}
 use Rattle.esa_envelope.specs.declared.keys.Keys.{Keys}
 use Rattle.esa_outside.specs.Cause.{Rose}
 use Rattle.esa_params.specs.Sizes.{Sizes}
-use Rattle.esa_params.specs.Slots.{at, item_length, number_of}
+use Rattle.esa_params.specs.Slots.{access_of, at, item_length, number_of}
+use Rattle.esa_params.specs.declared.slot.Access.{Access}
 use Rattle.esa_params.specs.declared.slot.Op.TheVariants.{Read as Reads}
 use Rattle.esa_params.specs.declared.slot.Region.TheVariants.{Tail}
 use Rattle.esa_params.specs.declared.slot.Slot.{Slot}
@@ -43,6 +44,18 @@ pub record GoesOnReading (old new : List Carried) : Type 0 where
   pub longer : new ≡ old ++ more
   pub reads : All (λ (entry : Carried). entry.access.op ≡ Reads) more
 
+-- the log goes on with reads, and the last of them gave these bytes
+pub record GivesAtLast (access : Access) (last : List ℕ) (old new : List Carried) : Type 0 where
+  pub before : List Carried
+  pub reads : GoesOnReading old before
+  pub is : new ≡ before ++ record { access = access; bytes = Some last } ∷ []
+
+-- a fact, where a block was given that doesn't open
+abbrev pub OnUnopened : {T : Type 0} → Result T VaultFault → Type 0 → Type 0
+OnUnopened (Ok done) fact = Unit {0}
+OnUnopened (Err (Device number)) fact = Unit {0}
+OnUnopened (Err (Tampered number)) fact = fact
+
 -- how the reads of an import end: so many were made. Where the last of them failed, or gave a block that doesn't open for
 -- the count of its items, it is that of its slot
 abbrev pub FetchAnswer : {T : Type 0} → Sizes → Keys → ℕ → ℕ → List ℕ → ℕ → ℕ → List ℕ → ℕ → ℕ → Result T VaultFault → Type 0
@@ -61,4 +74,5 @@ pub record IsFetched {V T : Type 0} (faults : V → ℕ) (p : Sizes) (keys : Key
   pub log : GoesOnReading old.log new.log
   pub room : old.room ≡ new.room + made
   pub plan : new.plan ≡ old.plan
+  pub given : OnUnopened result (GivesAtLast (access_of p attempt Reads (part_slot p i (made - 1))) new.last old.log new.log)
   pub answer : FetchAnswer p keys attempt i counts (faults old.device) (faults new.device) new.last most made result

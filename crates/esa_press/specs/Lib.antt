@@ -1,5 +1,8 @@
+pub mod Contents
 pub mod Drained
+pub mod Ends
 pub mod Fetched
+pub mod Over
 pub mod Pressed
 pub mod Records
 pub mod Stepped

@@ -34,11 +34,13 @@ pub record AreCounted (p : Sizes) (d : Draw) (h counts tails : List ℕ) : Type 
   pub chunks : (j i : ℕ) → j < p.b → i < p.b → count_at p.b counts j i ≡ length (chunk p d (order p.b h) (exchange_of (order p.b h) j) i)
   pub waits : (i : ℕ) → i < p.b → slice_index tails i ≡ backlog p d (order p.b h) p.b i
 
--- why the last access ended the steps: it failed, or gave a block that doesn't open for as many items as are counted
+-- why the last access ended the steps: it failed, or it was a read of this attempt and gave a block that doesn't open for as
+-- many items as are counted
 abbrev pub EndsSteps : Sizes → Keys → ℕ → ℕ → ℕ → ℕ → List ℕ → Access → VaultFault → Type 0
 EndsSteps p keys a count before now last access (Device number) = (number ≡ slot_number p access) × Rose before now
 EndsSteps p keys a count before now last access (Tampered number) =
-    (number ≡ slot_number p access) × (access.op ≡ Reads) × (opens p keys (at access.region access.index) a count last ≡ false) × (now ≡ before)
+    (number ≡ slot_number p access) × (access.op ≡ Reads) × (access.attempt ≡ a)
+    × (opens p keys (at access.region access.index) a count last ≡ false) × (now ≡ before)
 
 -- steps are made up to the first that can't be done, with just the accesses of the definition. Where an access ended them, it
 -- is the last of those

@@ -3,12 +3,13 @@
 ghost use Rattle.std.specs.Prelude.{◌≡◌, ℕ, suc, ◌+◌, ◌-◌, ◌*◌, ◌<◌, ◌≤◌, ◌++◌, List, [], ◌∷◌, Some, OnOk, length, map};
 ghost use Rattle.std.specs.List.{range_with_len};
 ghost use Rattle.esa_compress.specs.Held.{held_in};
-ghost use Rattle.esa_device.specs.Logs.{IsFaithful};
+ghost use Rattle.esa_device.specs.Logs.{Carried, IsFaithful};
 ghost use Rattle.esa_floor.specs.Standing.{turns_made};
-ghost use Rattle.esa_params.specs.Sizes.{first};
+ghost use Rattle.esa_params.specs.Sizes.{ArePlanned, first};
 ghost use Rattle.esa_spec.specs.Turns.{order};
 ghost use Rattle.esa_spec.specs.Verdicts.{Import, imported, reached, steps, steps_of};
 ghost use Rattle.esa_report.specs.declared.item.Item.{Item};
+ghost use Rattle.esa_press.specs.Contents.{AreOrders, ArePut, EachOpens, GoesOnPressing, HoldsDistribution, waiting_items};
 ghost use Rattle.esa_press.specs.Fetched.{AreStored, GoesOnReading};
 ghost use Rattle.esa_press.specs.Records.{imported_items};
 ghost use Rattle.esa_press.specs.Stepped.{AreCounted, AreMade};
@@ -45,6 +46,11 @@ impl Press {
         ensures gives { (chunks : ℕ → List Item) (left : List Item) → IsFaithful floor.old.plan floor.new.recorder.log
             → AreStored floor.old.plan floor.old.run attempt target floor.old.recorder.log chunks left
             → OnOk result (self.new.queue ≡ self.old.queue ++ held_in (imported_items floor.old.plan chunks left) (C.order_list coins.now attempt target)) }
+        ensures keeps { (record_of : ℕ → Item) → ArePlanned floor.old.plan → AreOrders floor.old.plan (G.draws attempt) (C.order_list coins.now attempt)
+            → HoldsDistribution floor.old.plan floor.old.run (G.draws attempt) (turns_made floor.old) attempt record_of floor.old.recorder.log
+            → IsFaithful floor.old.plan floor.new.recorder.log
+            → self.old.queue ≡ waiting_items floor.old.plan (G.draws attempt) (turns_made floor.old) record_of output target
+            → EachOpens result (self.new.queue ≡ waiting_items floor.old.plan (G.draws attempt) (turns_made floor.old) record_of output (target + 1)) (Unit {0}) }
         ensures floor { floor.new ≡ record floor.old { recorder = floor.new.recorder } }
         ensures ready { floor.new.recorder.plan ≡ floor.old.recorder.plan }
         ensures total { length floor.new.recorder.trace + floor.new.recorder.room ≡ length floor.old.recorder.trace + floor.old.recorder.room }
@@ -78,6 +84,12 @@ impl Press {
         requires waits { length self.old.queue ≡ reached floor.old.plan (G.draws attempt) from - first floor.old.plan output }
         ensures made { AreMade V.faults floor.old.plan floor.old.run (G.draws attempt) (order floor.old.plan.b (turns_made floor.old)) attempt (map (Import output) (range_with_len from (end - from))) floor.old.recorder floor.new.recorder result }
         ensures waits { OnOk result (length self.new.queue ≡ reached floor.old.plan (G.draws attempt) end - first floor.old.plan output) }
+        ensures log { GoesOnReading floor.old.recorder.log floor.new.recorder.log }
+        ensures keeps { (record_of : ℕ → Item) → ArePlanned floor.old.plan → AreOrders floor.old.plan (G.draws attempt) (C.order_list coins.now attempt)
+            → HoldsDistribution floor.old.plan floor.old.run (G.draws attempt) (turns_made floor.old) attempt record_of floor.old.recorder.log
+            → IsFaithful floor.old.plan floor.new.recorder.log
+            → self.old.queue ≡ waiting_items floor.old.plan (G.draws attempt) (turns_made floor.old) record_of output from
+            → EachOpens result (self.new.queue ≡ waiting_items floor.old.plan (G.draws attempt) (turns_made floor.old) record_of output end) (Unit {0}) }
         ensures floor { floor.new ≡ record floor.old { recorder = floor.new.recorder } }
         ensures ready { floor.new.recorder.plan ≡ floor.old.recorder.plan }
         ensures total { length floor.new.recorder.trace + floor.new.recorder.room ≡ length floor.old.recorder.trace + floor.old.recorder.room }
@@ -119,6 +131,16 @@ impl Press {
         ensures made { AreMade V.faults floor.old.plan floor.old.run (G.draws attempt) (order floor.old.plan.b (turns_made floor.old)) attempt (steps_of floor.old.plan output) floor.old.recorder floor.new.recorder result }
         ensures put { OnOk result (first floor.old.plan (output + 1) ≤ reached floor.old.plan (G.draws attempt) end) }
         ensures waits { OnOk result (length self.new.queue ≡ reached floor.old.plan (G.draws attempt) end - first floor.old.plan (output + 1)) }
+        ensures log { GoesOnPressing floor.old.recorder.log floor.new.recorder.log }
+        ensures puts { (record_of : ℕ → Item) (before : List Carried) → ArePlanned floor.old.plan → AreOrders floor.old.plan (G.draws attempt) (C.order_list coins.now attempt)
+            → HoldsDistribution floor.old.plan floor.old.run (G.draws attempt) (turns_made floor.old) attempt record_of before
+            → ArePut floor.old.plan floor.old.run (G.draws attempt) (turns_made floor.old) attempt record_of output before floor.old.recorder.log
+            → IsFaithful floor.old.plan floor.new.recorder.log
+            → self.old.queue ≡ waiting_items floor.old.plan (G.draws attempt) (turns_made floor.old) record_of output from
+            → EachOpens result
+            (ArePut floor.old.plan floor.old.run (G.draws attempt) (turns_made floor.old) attempt record_of (output + 1) before floor.new.recorder.log
+            × (self.new.queue ≡ waiting_items floor.old.plan (G.draws attempt) (turns_made floor.old) record_of (output + 1) end))
+            (ArePut floor.old.plan floor.old.run (G.draws attempt) (turns_made floor.old) attempt record_of output before floor.new.recorder.log) }
         ensures floor { floor.new ≡ record floor.old { recorder = floor.new.recorder } }
         ensures ready { floor.new.recorder.plan ≡ floor.old.recorder.plan }
         ensures total { length floor.new.recorder.trace + floor.new.recorder.room ≡ length floor.old.recorder.trace + floor.old.recorder.room }
@@ -151,6 +173,19 @@ impl Press {
         ensures ready { floor.new.recorder.plan ≡ floor.old.recorder.plan }
         ensures total { length floor.new.recorder.trace + floor.new.recorder.room ≡ length floor.old.recorder.trace + floor.old.recorder.room }
         ensures others { self.new ≡ record self.old { queue = self.new.queue; counts = self.new.counts } }
+
+        ensures log { GoesOnPressing floor.old.recorder.log floor.new.recorder.log }
+
+        // Where the coins draw the orders of the attempt, what was distributed is stored, and the log is faithful, each block
+        // opens, and the output buckets that were written have the records of their places, in order: all of them, where all
+        // steps were done.
+        ensures outputs { (record_of : ℕ → Item) → AreOrders floor.old.plan (G.draws attempt) (C.order_list coins.now attempt)
+            → HoldsDistribution floor.old.plan floor.old.run (G.draws attempt) (turns_made floor.old) attempt record_of floor.old.recorder.log
+            → IsFaithful floor.old.plan floor.new.recorder.log
+            → EachOpens result
+            (ArePut floor.old.plan floor.old.run (G.draws attempt) (turns_made floor.old) attempt record_of floor.old.plan.b floor.old.recorder.log floor.new.recorder.log)
+            ((n : ℕ) × (n < floor.old.plan.b)
+            × ArePut floor.old.plan floor.old.run (G.draws attempt) (turns_made floor.old) attempt record_of n floor.old.recorder.log floor.new.recorder.log) }
     {
         let plan = self.plan();
         self.clear();

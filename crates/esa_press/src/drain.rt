@@ -5,6 +5,8 @@ ghost use Rattle.esa_floor.specs.Standing.{IsSpread, turns_made};
 ghost use Rattle.esa_spec.specs.Draws.{IsDrawn};
 ghost use Rattle.esa_spec.specs.Turns.{order};
 ghost use Rattle.esa_stash.specs.Stash.{queue_at};
+ghost use Rattle.esa_report.specs.declared.item.Item.{Item};
+ghost use Rattle.esa_press.specs.Contents.{AreChunksStored, AreQueued, AreTailsStored};
 ghost use Rattle.esa_press.specs.Drained.{DrainEnd};
 ghost use Rattle.esa_press.specs.Stepped.{AreCounted};
 
@@ -33,6 +35,12 @@ impl Press {
         // A compression after it has its counts.
         ensures counted { IsDrawn floor.old.plan (G.draws attempt) → OnOk result (AreCounted floor.old.plan (G.draws attempt) (turns_made floor.old) floor.old.counts self.new.tails) }
         ensures others { self.new ≡ record self.old { tails = self.new.tails } }
+
+        // Where the queues have the records of the places that wait, the tails have them then. The chunks stay as they were.
+        ensures tails { (record_of : ℕ → Item) → AreQueued floor.old.plan (G.draws attempt) (turns_made floor.old) record_of floor.old.stash
+            → OnOk result (AreTailsStored floor.old.plan floor.old.run (G.draws attempt) (turns_made floor.old) attempt record_of floor.new.recorder.log) }
+        ensures chunks { (record_of : ℕ → Item) → AreChunksStored floor.old.plan floor.old.run (G.draws attempt) (turns_made floor.old) attempt record_of floor.old.recorder.log
+            → AreChunksStored floor.old.plan floor.old.run (G.draws attempt) (turns_made floor.old) attempt record_of floor.new.recorder.log }
     {
         for target in 0..self.plan().b() {
             if let Err(halt) = self.drain_one(floor, attempt, target) {

@@ -8,6 +8,7 @@
 
 mod compress;
 mod drain;
+mod ends;
 mod fetch;
 mod halt;
 mod import;
@@ -15,5 +16,6 @@ mod press;
 mod room;
 mod store;
 
+pub use ends::{compressions_end_attempts, distributed_floors_are_ready, drains_end_attempts};
 pub use halt::Halt;
 pub use press::Press;

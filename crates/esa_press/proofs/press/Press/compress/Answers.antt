@@ -1,15 +1,19 @@
-use Rattle.std.proofs.Common.{◌≡◌, ◌+◌, ◌-◌, ◌*◌, ◌<◌, ◌≤◌, ℕ, suc, Ok, Err, length, refl, sym, ap, ◌∙◌, subst, arith, add-one}
+use Rattle.std.proofs.Common.{◌≡◌, ◌+◌, ◌-◌, ◌*◌, ◌<◌, ◌≤◌, ℕ, suc, Ok, Err, length, refl, sym, ap, ◌∙◌, subst, arith, add-one, map}
 use Rattle.std.proofs.Math.Nat.{add-mul, mul-le-mul_right}
 use Rattle.esa_floor.specs.Parts.{Parts}
 use Rattle.esa_floor.specs.Standing.{turns_made}
 use Rattle.esa_laws.proofs.SizeLaws.{first-zero}
 use Rattle.esa_laws.proofs.WalkLaws.{reached-zero}
-use Rattle.esa_params.specs.Sizes.{Sizes, first}
+use Rattle.esa_params.specs.Sizes.{Sizes, first, ArePlanned}
 use Rattle.esa_spec.specs.Turns.{order}
 use Rattle.esa_spec.specs.Verdicts.{imported, reached, steps_of}
 use Rattle.esa_press.specs.Pressed.{Pressed}
 use Rattle.esa_press.specs.Stepped.{AreMade}
 use Rattle.esa_press.proofs.Stepping.{imported_few, imported_rises, made_none, made_output, made_outputs_bad}
+use Rattle.esa_press.proofs.Storing.{Puts, pressing_faithful, pressing_read, pressing_then, put_none, stops_with}
+use Rattle.esa_press.proofs.Fetching.{reads_none}
+use Rattle.esa_press.specs.Contents.{ArePut}
+use Rattle.std.proofs.Math.Seq.{drop-nil}
 use Rattle.esa_press.proofs.press.Press.compress.Goals as goal
 
 pub loop-output-init : goal.loop-output-init
@@ -29,7 +33,45 @@ loop-output-init g c =
       put = omega (arith, none, start);
       waits = omega (arith, none, start, empty);
       made = made_none g.V.Device.faults f.plan f.run d c.args.attempt (order f.plan.b (turns_made f)) f.recorder tt;
+      log = pressing_read f.recorder.log f.recorder.log (reads_none f.recorder.log);
+      puts = λ record_of orders holds faithful. (
+        put_none f.plan f.run d (turns_made f) c.args.attempt record_of f.recorder.log,
+        ap (λ (w : Pressed). w.queue) c.clear.ensures ∙ sym (ap (map record_of) (drop-nil (first f.plan 0))),
+      );
     }
+
+pub returns-in-Err-clause-log : goal.returns-in-Err-clause-log
+returns-in-Err-clause-log g c =
+    pressing_then c.args.floor.now.recorder.log c.loop-output.floor.recorder.log c.put_out.new.floor.recorder.log c.loop-output.invariant.log c.put_out.ensures.log
+
+pub returns-in-Err-clause-outputs : goal.returns-in-Err-clause-outputs
+returns-in-Err-clause-outputs g c = λ record_of orders holds faithful.
+    let inv = c.loop-output.invariant in
+    let f = c.args.floor.now in
+    let a = c.args.attempt in
+    let d = g.G.Told.draws a in
+    let h = turns_made f in
+    let j = c.loop-output.output in
+    let first_log = f.recorder.log in
+    let old = c.loop-output.floor.recorder.log in
+    let new = c.put_out.new.floor.recorder.log in
+    let lists = g.C.Coins.order_list c.args.coins.now a in
+    let plan_is : c.plan-plan.result ≡ f.plan = c.plan-plan.ensures ∙ c.requires.plan in
+    let inside : j < f.plan.b = omega (arith, c.loop-output-test.true, c.b-output-end.ensures.value, ap (λ (q : Sizes). q.b) plan_is) in
+    let planned : ArePlanned f.plan = subst ArePlanned plan_is c.w.ensures.limits in
+    let here : Puts {T = Unit {0}} f.plan f.run d h a lists record_of j c.loop-output.from c.min-end.result first_log old new c.loop-output.self.queue c.put_out.new.self.queue (Err c.in-Err.halt) =
+    subst (λ (x : Parts _). Puts {T = Unit {0}} x.plan x.run d (turns_made x) a lists record_of j c.loop-output.from c.min-end.result first_log old new c.loop-output.self.queue c.put_out.new.self.queue (Err c.in-Err.halt))
+    inv.floor (c.in-Err.ensures.puts record_of first_log) in
+    let so_far = inv.puts record_of orders holds (pressing_faithful f.plan old new c.put_out.ensures.log faithful) in
+    stops_with _ _ _ _ c.in-Err.halt (here planned orders holds so_far.0 faithful so_far.1) (λ put. (j, inside, put))
+
+pub returns-clause-outputs : goal.returns-clause-outputs
+returns-clause-outputs g c = λ record_of orders holds faithful.
+    let f = c.args.floor.now in
+    let plan_is : c.plan-plan.result ≡ f.plan = c.plan-plan.ensures ∙ c.requires.plan in
+    let last : c.loop-output.output ≡ f.plan.b = omega (arith, c.loop-output-test.false, c.loop-output.auto.output-end, c.b-output-end.ensures.value, ap (λ (q : Sizes). q.b) plan_is) in
+    subst (λ (n : ℕ). ArePut f.plan f.run (g.G.Told.draws c.args.attempt) (turns_made f) c.args.attempt record_of n f.recorder.log c.loop-output.floor.recorder.log) last
+    (c.loop-output.invariant.puts record_of orders holds faithful).0
 
 pub put_out-requires-clause-room : goal.put_out-requires-clause-room
 put_out-requires-clause-room g c =
@@ -85,6 +127,10 @@ loop-output-preserved g c =
     let both = add-mul c.loop-output.from m (p.b + 1) in
     let product = ap (λ (n : ℕ). n * (p.b + 1)) sum_is in
     let own = ap (λ (n : ℕ). m * (n + 1)) same in
+    let a = c.args.attempt in
+    let h = turns_made f in
+    let lists = g.C.Coins.order_list c.args.coins.now a in
+    let planned : ArePlanned p = subst ArePlanned plan_is c.w.ensures.limits in
     record {
       from = end_is ∙ ap (imported p) (sym (add-one j));
       floor = c.put_out.ensures.floor ∙ ap (λ (x : Parts _). record x { recorder = new }) inv.floor;
@@ -98,4 +144,11 @@ loop-output-preserved g c =
           made_output g.V.Device.faults p f.run d o c.args.attempt j f.recorder old new tt (Ok tt) inv.made
           (subst (λ (x : Parts _). AreMade {T = Unit {0}} g.V.Device.faults x.plan x.run d (order x.plan.b (turns_made x)) c.args.attempt (steps_of x.plan j) old new (Ok tt)) inv.floor
           c.in_default.ensures.made);
+      log = pressing_then f.recorder.log old.log new.log inv.log c.put_out.ensures.log;
+      puts = λ record_of orders holds faithful.
+          let one : Puts {T = Unit {0}} p f.run d h a lists record_of j c.loop-output.from c.min-end.result f.recorder.log old.log new.log c.loop-output.self.queue c.put_out.new.self.queue (Ok tt) =
+          subst (λ (x : Parts _). Puts {T = Unit {0}} x.plan x.run d (turns_made x) a lists record_of j c.loop-output.from c.min-end.result f.recorder.log old.log new.log c.loop-output.self.queue c.put_out.new.self.queue (Ok tt))
+          inv.floor (c.in_default.ensures.puts record_of f.recorder.log) in
+          let so_far = inv.puts record_of orders holds (pressing_faithful p old.log new.log c.put_out.ensures.log faithful) in
+          one planned orders holds so_far.0 faithful so_far.1;
     }

@@ -1,4 +1,4 @@
-use Rattle.std.proofs.Common.{◌≡◌, ℕ, List, ◌<◌, All, Some, length, refl, sym, ap, ◌∙◌, subst, arith}
+use Rattle.std.proofs.Common.{◌≡◌, ℕ, List, ◌<◌, All, Some, length, refl, sym, ap, ◌∙◌, subst, arith, Ok, Err}
 use Rattle.std.specs.Prelude.{slice_index}
 use Rattle.esa_floor.specs.Parts.{Parts}
 use Rattle.esa_floor.specs.Standing.{turns_made}
@@ -12,6 +12,7 @@ use Rattle.esa_vault.specs.Placed.{IsSpelled}
 use Rattle.esa_press.specs.Drained.{AreDrained}
 use Rattle.esa_press.specs.Pressed.{Pressed}
 use Rattle.esa_press.proofs.Draining.{all_queued, all_waits, counted_then, drain_ends, drained_more, drained_none, none_passes, none_left, noted_more}
+use Rattle.esa_press.proofs.Storing.{chunks_stay, tails_stored}
 use Rattle.esa_press.proofs.press.Press.drain.Goals as goal
 
 pub loop-target-init : goal.loop-target-init
@@ -106,3 +107,22 @@ returns-clause-counted g c = λ drawn.
     counted_then f.plan d (turns_made f) f.stash f.counts f.counted c.loop-target.self.tails drawn c.requires.spread c.requires.all
     (none_passes (is_left f.plan d o) f.plan.b (λ x x_in. none_left f d o (all_waits f.plan d (turns_made f) f.stash f.counts f.counted c.requires.spread c.requires.all) f.plan.b x (omega arith) x_in all.few))
     (λ i i_in. c.loop-target.invariant.noted i (omega (arith, i_in, last)))
+
+pub returns-clause-tails : goal.returns-clause-tails
+returns-clause-tails g c = λ record_of queues.
+    let f = c.args.floor.now in
+    let last : c.loop-target.target ≡ f.plan.b =
+    let end = c.b-target-end.ensures.value ∙ ap (λ (q : Sizes). q.b) (c.plan.ensures ∙ c.requires.plan) in
+    omega (arith, c.loop-target-test.false, end, c.loop-target.auto.target-end) in
+    tails_stored g.V.Device.faults c.args.attempt f (g.G.Told.draws c.args.attempt) (turns_made f) record_of c.loop-target.floor (sym c.requires.spread.writes ∙ c.requires.all) queues
+    (subst (λ (n : ℕ). AreDrained g.V.Device.faults c.args.attempt n f c.loop-target.floor) last c.loop-target.invariant.drained)
+
+pub returns-clause-chunks : goal.returns-clause-chunks
+returns-clause-chunks g c = λ record_of.
+    let f = c.args.floor.now in
+    chunks_stay g.V.Device.faults c.args.attempt f (g.G.Told.draws c.args.attempt) (turns_made f) record_of {T = Unit {0}} (order f.plan.b (turns_made f)) c.loop-target.floor (Ok tt) (returns-clause-ends g c)
+
+pub returns-in-Err-clause-chunks : goal.returns-in-Err-clause-chunks
+returns-in-Err-clause-chunks g c = λ record_of.
+    let f = c.args.floor.now in
+    chunks_stay g.V.Device.faults c.args.attempt f (g.G.Told.draws c.args.attempt) (turns_made f) record_of {T = Unit {0}} (order f.plan.b (turns_made f)) c.drain_one.new.floor (Err c.in-Err.halt) (returns-in-Err-clause-ends g c)

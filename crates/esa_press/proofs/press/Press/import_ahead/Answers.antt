@@ -10,6 +10,9 @@ use Rattle.esa_spec.specs.Verdicts.{Import, reached}
 use Rattle.esa_press.specs.Pressed.{Pressed}
 use Rattle.esa_press.specs.Stepped.{AreCounted, AreMade}
 use Rattle.esa_press.proofs.Stepping.{made_import, made_imports_bad, made_none}
+use Rattle.esa_press.proofs.Storing.{Keeps, holds_read, reads_then, stops_too}
+use Rattle.esa_press.proofs.Fetching.{faithful_before, reads_none}
+use Rattle.esa_press.specs.Contents.{waiting_items}
 use Rattle.esa_press.proofs.press.Press.import_ahead.Goals as goal
 
 pub import_target-requires-clause-plan : goal.import_target-requires-clause-plan
@@ -89,7 +92,38 @@ loop-target-init g c =
       waits = c.requires.waits;
       made = subst (λ (n : ℕ). AreMade {T = Unit {0}} g.V.Device.faults f.plan f.run d (order f.plan.b (turns_made f)) c.args.attempt (map (Import c.args.output) (range_with_len c.args.from n)) f.recorder f.recorder (Ok tt))
           (sym none) (made_none g.V.Device.faults f.plan f.run d c.args.attempt (order f.plan.b (turns_made f)) f.recorder tt);
+      log = reads_none f.recorder.log;
+      keeps = λ record_of planned orders holds faithful waits. waits;
     }
+
+pub returns-in-Err-clause-log : goal.returns-in-Err-clause-log
+returns-in-Err-clause-log g c =
+    reads_then c.args.floor.now.recorder.log c.loop-target.floor.recorder.log c.import_target.new.floor.recorder.log c.loop-target.invariant.log c.import_target.ensures.log
+
+pub returns-in-Err-clause-keeps : goal.returns-in-Err-clause-keeps
+returns-in-Err-clause-keeps g c = λ record_of planned orders holds faithful waits.
+    let inv = c.loop-target.invariant in
+    let f = c.args.floor.now in
+    let a = c.args.attempt in
+    let d = g.G.Told.draws a in
+    let h = turns_made f in
+    let t = c.loop-target.target in
+    let old = c.loop-target.floor.recorder.log in
+    let new = c.import_target.new.floor.recorder.log in
+    let lists = g.C.Coins.order_list c.args.coins.now a in
+    let here : Keeps {T = Unit {0}} f.plan f.run d h a lists record_of c.args.output t (t + 1) old new c.loop-target.self.queue c.import_target.new.self.queue (Err c.in-Err.halt) =
+    subst (λ (x : Parts _). Keeps {T = Unit {0}} x.plan x.run d (turns_made x) a lists record_of c.args.output t (t + 1) old new c.loop-target.self.queue c.import_target.new.self.queue (Err c.in-Err.halt))
+    inv.floor (c.in-Err.ensures.keeps record_of) in
+    stops_too _ _ _ c.in-Err.halt
+    (here planned orders (holds_read f.plan f.run d h a record_of f.recorder.log old inv.log holds) faithful
+    (inv.keeps record_of planned orders holds (faithful_before f.plan old new c.import_target.ensures.log faithful) waits))
+
+pub returns-clause-keeps : goal.returns-clause-keeps
+returns-clause-keeps g c = λ record_of planned orders holds faithful waits.
+    let f = c.args.floor.now in
+    let last : c.loop-target.target ≡ c.args.end = omega (arith, c.loop-target-test.false, c.loop-target.auto.target-end) in
+    c.loop-target.invariant.keeps record_of planned orders holds faithful waits
+    ∙ ap (waiting_items f.plan (g.G.Told.draws c.args.attempt) (turns_made f) record_of c.args.output) last
 
 pub returns-in-Err-clause-made : goal.returns-in-Err-clause-made
 returns-in-Err-clause-made g c =
@@ -124,6 +158,9 @@ loop-target-preserved g c =
     let same : c.loop-target.floor.plan.b ≡ f.plan.b = ap (λ (f : Parts _). f.plan.b) inv.floor in
     let one_more : suc n * (f.plan.b + 1) ≡ n * (f.plan.b + 1) + (f.plan.b + 1) = omega arith in
     let product = ap (λ (m : ℕ). m * (f.plan.b + 1)) more in
+    let a = c.args.attempt in
+    let h = turns_made f in
+    let lists = g.C.Coins.order_list c.args.coins.now a in
     record {
       from = omega (arith, inv.from);
       floor = c.import_target.ensures.floor ∙ ap (λ (x : Parts _). record x { recorder = new }) inv.floor;
@@ -138,6 +175,13 @@ loop-target-preserved g c =
           (subst (λ (i : ℕ). AreMade {T = Unit {0}} g.V.Device.faults f.plan f.run d o c.args.attempt (Import c.args.output i ∷ []) old new (Ok tt)) here
           (subst (λ (x : Parts _). AreMade {T = Unit {0}} g.V.Device.faults x.plan x.run d (order x.plan.b (turns_made x)) c.args.attempt (Import c.args.output t ∷ []) old new (Ok tt)) inv.floor
           c.in_default.ensures.made)));
+      log = reads_then f.recorder.log old.log new.log inv.log c.import_target.ensures.log;
+      keeps = λ record_of planned orders holds faithful waits.
+          let one : Keeps {T = Unit {0}} f.plan f.run d h a lists record_of c.args.output t (t + 1) old.log new.log c.loop-target.self.queue c.import_target.new.self.queue (Ok tt) =
+          subst (λ (x : Parts _). Keeps {T = Unit {0}} x.plan x.run d (turns_made x) a lists record_of c.args.output t (t + 1) old.log new.log c.loop-target.self.queue c.import_target.new.self.queue (Ok tt))
+          inv.floor (c.in_default.ensures.keeps record_of) in
+          one planned orders (holds_read f.plan f.run d h a record_of f.recorder.log old.log inv.log holds) faithful
+          (inv.keeps record_of planned orders holds (faithful_before f.plan old.log new.log c.import_target.ensures.log faithful) waits);
     }
 
 pub returns-clause-made : goal.returns-clause-made

@@ -1,11 +1,15 @@
 -- The targets before this one are imported.
-use Rattle.std.proofs.Common.{◌≡◌, ◌+◌, ◌-◌, ◌*◌, ◌≤◌, Ok, length, map}
+use Rattle.std.proofs.Common.{◌≡◌, ◌+◌, ◌-◌, ◌*◌, ◌≤◌, Ok, length, map, ℕ}
 use Rattle.std.specs.List.{range_with_len}
 use Rattle.esa_floor.specs.Standing.{turns_made}
-use Rattle.esa_params.specs.Sizes.{first}
+use Rattle.esa_params.specs.Sizes.{first, ArePlanned}
 use Rattle.esa_spec.specs.Turns.{order}
 use Rattle.esa_spec.specs.Verdicts.{Import, reached}
 use Rattle.esa_press.specs.Stepped.{AreMade}
+use Rattle.esa_press.specs.Contents.{AreOrders, HoldsDistribution, waiting_items}
+use Rattle.esa_press.specs.Fetched.{GoesOnReading}
+use Rattle.esa_device.specs.Logs.{IsFaithful}
+use Rattle.esa_report.specs.declared.item.Item.{Item}
 use Rattle.esa_press.proofs.press.Press.import_ahead.Given as goal
 
 abbrev pub invariant-loop-target : goal.invariant-loop-target
@@ -19,4 +23,10 @@ invariant-loop-target g l = record {
   waits : length l.self.queue ≡ reached l.fn.floor.plan (g.G.Told.draws l.attempt) l.target - first l.fn.floor.plan l.output;
   made : AreMade {T = Unit {0}} g.V.Device.faults l.fn.floor.plan l.fn.floor.run (g.G.Told.draws l.attempt) (order l.fn.floor.plan.b (turns_made l.fn.floor)) l.attempt
       (map (Import l.output) (range_with_len l.from (l.target - l.from))) l.fn.floor.recorder l.floor.recorder (Ok tt);
+  log : GoesOnReading l.fn.floor.recorder.log l.floor.recorder.log;
+  keeps : (record_of : ℕ → Item) → ArePlanned l.fn.floor.plan → AreOrders l.fn.floor.plan (g.G.Told.draws l.attempt) (g.C.Coins.order_list l.coins l.attempt)
+      → HoldsDistribution l.fn.floor.plan l.fn.floor.run (g.G.Told.draws l.attempt) (turns_made l.fn.floor) l.attempt record_of l.fn.floor.recorder.log
+      → IsFaithful l.fn.floor.plan l.floor.recorder.log
+      → l.fn.self.queue ≡ waiting_items l.fn.floor.plan (g.G.Told.draws l.attempt) (turns_made l.fn.floor) record_of l.output l.from
+      → l.self.queue ≡ waiting_items l.fn.floor.plan (g.G.Told.draws l.attempt) (turns_made l.fn.floor) record_of l.output l.target;
 }

@@ -1,4 +1,4 @@
-use Rattle.std.proofs.Common.{◌++◌, OnOk, ◌≡◌, ◌+◌, ℕ, List, length, sum, ap, ◌∙◌, subst, arith}
+use Rattle.std.proofs.Common.{◌++◌, OnOk, ◌≡◌, ◌+◌, ℕ, List, length, sum, ap, ◌∙◌, subst, arith, map}
 use Rattle.std.specs.Prelude.{slice_index}
 use Rattle.esa_floor.specs.Standing.{turns_made}
 use Rattle.esa_params.specs.Sizes.{Sizes}
@@ -14,6 +14,10 @@ use Rattle.esa_press.specs.Stepped.{parts_counted}
 use Rattle.esa_press.proofs.Counting.{parts_few, tail_few}
 use Rattle.esa_press.proofs.Fetching.{on_ok}
 use Rattle.esa_press.proofs.Stepping.{import_keeps, import_logs, import_totals, import_made, waits_few, waits_more}
+use Rattle.esa_press.proofs.Storing.{are_stored, import_answer_is, import_kept}
+use Rattle.esa_spec.specs.Turns.{order}
+use Rattle.esa_spec.specs.Lines.{chunk, tail}
+use Rattle.esa_spec.specs.Places.{exchange_of}
 use Rattle.esa_press.proofs.press.Press.import_target.Goals as goal
 
 pub import-requires-clause-all : goal.import-requires-clause-all
@@ -113,3 +117,26 @@ pub returns-clause-total : goal.returns-clause-total
 returns-clause-total g c =
     import_totals g.V.Device.faults c.count.new.self.plan c.count.new.self.run c.args.attempt c.args.target c.count.new.self.counts c.count.new.self.queue c.recorder.result.now c.import.new.recorder c.import.result c.import.ensures.answer
     ∙ ap (λ (r : Recorded _). length r.trace + r.room) c.recorder.ensures.value
+
+pub returns-clause-keeps : goal.returns-clause-keeps
+returns-clause-keeps g c = λ record_of planned orders holds faithful waits.
+    let f = c.args.floor.now in
+    let w = c.count.new.self in
+    let i = c.args.target in
+    let a = c.args.attempt in
+    let d = g.G.Told.draws a in
+    let h = turns_made f in
+    let plan_is : w.plan ≡ f.plan = ap (λ (x : Pressed). x.plan) c.count.ensures ∙ c.requires.plan in
+    let run_is : w.run ≡ f.run = ap (λ (x : Pressed). x.run) c.count.ensures ∙ c.requires.run in
+    let parts_are : w.counts ≡ parts_counted f.plan f.counts c.args.self.now.tails i =
+    ap (λ (x : Pressed). x.counts) c.count.ensures ∙ ap (λ (q : Sizes). parts_counted q f.counts c.args.self.now.tails i) c.requires.plan in
+    let queue_is : w.queue ≡ c.args.self.now.queue = ap (λ (x : Pressed). x.queue) c.count.ensures in
+    let same : c.recorder.result.now ≡ f.recorder = c.recorder.ensures.value in
+    import_kept f.plan f.run d h f.counts c.args.self.now.tails a c.requires.counted record_of i c.requires.target
+    g.V.Device.faults f.recorder c.import.new.recorder c.args.output c.args.self.now.queue c.import.new.self.queue (g.C.Coins.order_list c.args.coins.now a i) c.import.result
+    planned (omega arith) c.requires.put (orders i c.requires.target) holds faithful
+    (import_answer_is g.V.Device.faults a i w f.plan f.run (parts_counted f.plan f.counts c.args.self.now.tails i) c.args.self.now.queue plan_is run_is parts_are queue_is
+    c.recorder.result.now f.recorder c.import.new.recorder c.import.result same c.import.ensures.answer)
+    (returns-clause-gives g c (λ j. map record_of (chunk f.plan d (order f.plan.b h) (exchange_of (order f.plan.b h) j) i)) (map record_of (tail f.plan d (order f.plan.b h) i)) faithful
+    (are_stored f.plan f.run d h f.counts c.args.self.now.tails a c.requires.counted record_of i c.requires.target f.recorder.log holds))
+    waits

@@ -1,0 +1,102 @@
+-- What the slots of an attempt hold, where each place has the item of its record.
+use Rattle.std.specs.Prelude.{◌≡◌, ℕ, ◌<◌, ◌++◌, ◌&&◌, Bool, List, map, length, All, count_by, is_some, Result, Ok, Err}
+use Rattle.esa_device.specs.Logs.{Carried, Took}
+use Rattle.esa_envelope.specs.declared.keys.Keys.{Keys}
+use Rattle.esa_params.specs.Sizes.{Sizes}
+use Rattle.esa_params.specs.Slots.{at, is_writing, item_length, number_of}
+use Rattle.esa_params.specs.declared.slot.Op.TheVariants.{Write as Writes}
+use Rattle.esa_params.specs.declared.slot.Region.TheVariants.{Output, Tail}
+use Rattle.esa_report.specs.declared.item.Item.{Item}
+use Rattle.esa_spec.specs.Draws.{Draw}
+use Rattle.esa_spec.specs.Lines.{chunk, queued, tail}
+use Rattle.esa_spec.specs.Places.{exchange_of, output_places, window}
+use Rattle.esa_spec.specs.Traces.{chunk_slot}
+use Rattle.esa_spec.specs.Turns.{order}
+use Rattle.esa_stash.specs.Stash.{Held, queue_at}
+use Rattle.esa_vault.specs.Filled.{text_of}
+use Rattle.esa_vault.specs.Placed.{IsHeld, IsSpelled}
+use Rattle.esa_vault.specs.Seals.{sealed_block}
+use Rattle.esa_vault.specs.declared.fault.VaultFault.TheVariants.{Device, Tampered}
+use Rattle.esa_press.specs.Records.{sealed_records}
+use Rattle.esa_press.specs.declared.halt.Halt.{Halt}
+use Rattle.esa_press.specs.declared.halt.Halt.TheVariants.{Verdict, Fault}
+
+-- the item of each place is no dummy, and so many bytes spell it
+pub record AreItems (size : ℕ) (record_of : ℕ → Item) : Type 0 where
+  pub held : (x : ℕ) → IsHeld (record_of x)
+  pub spelled : (x : ℕ) → IsSpelled size (record_of x)
+
+-- these orders are those of a draw
+abbrev pub AreOrders : Sizes → Draw → (ℕ → List ℕ) → Type 0
+AreOrders p d orders = (i : ℕ) → i < p.b → orders i ≡ d.order i
+
+-- the records of the places in the window where i targets are imported and j output buckets are put, after the turns h
+abbrev pub waiting_items : Sizes → Draw → List ℕ → (ℕ → Item) → ℕ → ℕ → List Item
+waiting_items p d h record_of j i = map record_of (window p d (order p.b h) j i)
+
+-- each queue of a stash has the records of the places that wait for its target after the turns h
+abbrev pub AreQueued : Sizes → Draw → List ℕ → (ℕ → Item) → Held → Type 0
+AreQueued p d h record_of stash =
+    (i : ℕ) → i < p.b → queue_at stash i ≡ map record_of (queued p d (order p.b h) (length (order p.b h)) i)
+
+module _ (p : Sizes) (keys : Keys) (d : Draw) (h : List ℕ) (a : ℕ) (record_of : ℕ → Item) where
+  -- the chunk of bucket j for the target i in attempt a with the turns h: the block of the records of its places
+  abbrev pub chunk_block : ℕ → ℕ → List ℕ
+  chunk_block j i = sealed_records p keys (chunk_slot p j i) a p.c (map record_of (chunk p d (order p.b h) (exchange_of (order p.b h) j) i))
+
+  -- the tail of the target i, likewise
+  abbrev pub tail_of : ℕ → List ℕ
+  tail_of i = sealed_records p keys (at Tail i) a p.k (map record_of (tail p d (order p.b h) i))
+
+  -- output bucket j: the block of the records of its places, in order
+  abbrev pub output_of : ℕ → List ℕ
+  output_of j = sealed_block p keys (at Output j) a (text_of (item_length p.form) (map record_of (output_places p d h j)))
+
+  -- the latest write of the slot of each chunk took its block
+  abbrev pub AreChunksStored : List Carried → Type 0
+  AreChunksStored log = (j i : ℕ) → j < p.b → i < p.b → Took p (number_of p (chunk_slot p j i)) (chunk_block j i) log
+
+  -- and so it is with the slot of each tail
+  abbrev pub AreTailsStored : List Carried → Type 0
+  AreTailsStored log = (i : ℕ) → i < p.b → Took p (number_of p (at Tail i)) (tail_of i) log
+
+  -- and with those of the first n output buckets
+  abbrev pub AreOutputsStored : ℕ → List Carried → Type 0
+  AreOutputsStored n log = (j : ℕ) → j < n → Took p (number_of p (at Output j)) (output_of j) log
+
+-- what was distributed in an attempt is stored: the chunks and the tails, of the records of their places
+pub record HoldsDistribution (p : Sizes) (keys : Keys) (d : Draw) (h : List ℕ) (a : ℕ) (record_of : ℕ → Item) (log : List Carried) : Type 0 where
+  pub items : AreItems (item_length p.form) record_of
+  pub chunks : AreChunksStored p keys d h a record_of log
+  pub tails : AreTailsStored p keys d h a record_of log
+
+-- an access wrote, and didn't fail
+abbrev pub has_stored : Carried → Bool
+has_stored entry = is_writing entry.access.op && is_some entry.bytes
+
+-- an access reads, or writes a block of the output
+abbrev pub IsOfPress : Carried → Type 0
+IsOfPress entry = entry.access.op ≡ Writes → entry.access.region ≡ Output
+
+-- a log goes on with reads and with writes of the output, and n of these didn't fail
+pub record GoesOnWriting (n : ℕ) (old new : List Carried) : Type 0 where
+  pub more : List Carried
+  pub longer : new ≡ old ++ more
+  pub each : All IsOfPress more
+  pub many : count_by has_stored more ≡ n
+
+-- whatever their number is
+abbrev pub GoesOnPressing : List Carried → List Carried → Type 0
+GoesOnPressing old new = (n : ℕ) × GoesOnWriting n old new
+
+-- the first n output buckets were written, and no more
+pub record ArePut (p : Sizes) (keys : Keys) (d : Draw) (h : List ℕ) (a : ℕ) (record_of : ℕ → Item) (n : ℕ) (old new : List Carried) : Type 0 where
+  pub log : GoesOnWriting n old new
+  pub outputs : AreOutputsStored p keys d h a record_of n new
+
+-- each block that was given opened: the one fact, where all was done, and the other one, where it was stopped
+abbrev pub EachOpens : {T : Type 0} → Result T Halt → Type 0 → Type 0 → Type 0
+EachOpens (Ok done) whole stopped = whole
+EachOpens (Err (Verdict v)) whole stopped = stopped
+EachOpens (Err (Fault (Device number))) whole stopped = stopped
+EachOpens (Err (Fault (Tampered number))) whole stopped = ⊥
