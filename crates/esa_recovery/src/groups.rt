@@ -28,10 +28,10 @@ fn add(alloc: Global, groups: &mut Groups, value: &[u8]) -> Result<(), AllocErro
         → OnOk result (tree.get (slice_cmp nat_cmp) groups.new group ≡ tree.get (slice_cmp nat_cmp) groups.old group) }
 {
     let key = key_of(value);
-    let mut group = match groups.remove(&key) {
-        Some(group) => group,
-        None => Group::empty(alloc),
-    };
+    if let Some(group) = groups.get_mut(&key) {
+        return group.take(alloc, value);
+    }
+    let mut group = Group::empty(alloc);
     group.take(alloc, value)?;
     groups.insert(key, group)?;
     Ok(())

@@ -32,8 +32,11 @@ fn add<'a>(
     ensures { OnOk result (plain sums.new.entries
         ≡ put (slice_cmp nat_cmp) value.now (unwrap_or (find (slice_cmp nat_cmp) value.now (plain sums.old.entries)) 0 + count) (plain sums.old.entries)) }
 {
-    let before = sums.get(value).copied().unwrap_or(0);
-    sums.insert(value, before + count)?;
+    if let Some(sum) = sums.get_mut(value) {
+        *sum += count;
+        return Ok(());
+    }
+    sums.insert(value, count)?;
     Ok(())
 }
 
