@@ -1,18 +1,26 @@
 -- Whether the turns of an attempt are finished, by what a floor holds.
-use Rattle.std.proofs.Common.{◌≡◌, ◌≢◌, ℕ, ◌+◌, ◌*◌, ◌<◌, true, false, List, [], ◌∷◌, ◌++◌, length, take, drop, get_or, Option, Some, None, refl, sym, ap, ◌∙◌, subst, arith, take-append-drop, length-append}
+use Rattle.std.proofs.Common.{◌≡◌, ◌≢◌, ℕ, ◌+◌, ◌*◌, ◌<◌, true, false, List, [], ◌∷◌, ◌++◌, length, map, take, drop, get_or, Option, Some, None, refl, sym, ap, ◌∙◌, subst, arith, take-append-drop, length-append}
 use Rattle.std.specs.Prelude.{is_some, ◌||◌, ◌==◌}
 use Rattle.std.proofs.lemmas.List.{length-take-le, take_more}
 use Rattle.esa_laws.proofs.AfterLaws.{keeps}
 use Rattle.esa_laws.proofs.FinishLaws.{finished-where}
+use Rattle.esa_laws.proofs.PairLaws.{each-pair}
 use Rattle.esa_laws.proofs.Tests.{unequal}
+use Rattle.esa_laws.proofs.TotalLaws.{all-exchanged}
 use Rattle.esa_laws.proofs.TurnLaws.{event_at-append}
 use Rattle.esa_laws.proofs.VerdictLaws.{finished-now}
+use Rattle.esa_device.specs.Logs.{Took}
 use Rattle.esa_params.specs.Sizes.{Sizes}
+use Rattle.esa_params.specs.Slots.{number_of}
+use Rattle.esa_report.specs.declared.item.Item.{Item}
 use Rattle.esa_spec.specs.Draws.{Draw}
-use Rattle.esa_spec.specs.Lines.{overflows}
+use Rattle.esa_spec.specs.Lines.{overflows, queued, tail}
+use Rattle.esa_spec.specs.Traces.{chunk_slot}
 use Rattle.esa_spec.specs.Turns.{event_at, exchanged, next, order, writes}
 use Rattle.esa_spec.specs.Verdicts.{failing, is_finished}
 use Rattle.esa_spec.specs.declared.event.Event.TheVariants.{Exchange}
+use Rattle.esa_stash.specs.Stash.{queue_at}
+use Rattle.esa_floor.specs.Keeping.{HasInput, QueuesHold, SlotsHold, chunk_block}
 use Rattle.esa_floor.specs.Parts.{Parts}
 use Rattle.esa_floor.specs.Standing.{IsAtWork, Stands, StopsAt, attempt_begun, turns_made}
 use Rattle.esa_floor.specs.declared.turn.Stop.{Stop}
@@ -58,6 +66,22 @@ module _ {V : Type 0} (faults : V → ℕ) (p : Sizes) (ds : ℕ → Draw) (f : 
 
     pub all_written : f.counted.writes ≡ f.plan.b * f.plan.b → is_finished f.plan (ds (attempt_begun f)) (turns_made f) ≡ true
     all_written all = finished-where f.plan (ds (attempt_begun f)) (turns_made f) (sym written ∙ all)
+
+    -- where all chunks are written, each slot has its block, and each queue what is left for its target
+    module _ (all : f.counted.writes ≡ f.plan.b * f.plan.b) (record_of : ℕ → Item) (input : HasInput f record_of) where
+      pub each_stored : SlotsHold ds f → (j i : ℕ) → j < f.plan.b → i < f.plan.b
+          → Took f.plan (number_of f.plan (chunk_slot f.plan j i))
+          (chunk_block f.plan f.run (attempt_begun f) (ds (attempt_begun f)) record_of (order f.plan.b (turns_made f)) j i) f.recorder.log
+      each_stored slots j i j_in i_in =
+          let once = each-pair f.plan.b (turns_made f) j i (sym written ∙ all) j_in i_in in
+          (slots record_of input some runs j i j_in i_in (omega (arith, once))).took
+
+      pub each_left : QueuesHold ds f → (i : ℕ) → i < f.plan.b
+          → queue_at f.stash i ≡ map record_of (tail f.plan (ds (attempt_begun f)) (order f.plan.b (turns_made f)) i)
+      each_left queues i i_in =
+          queues record_of input some runs i i_in
+          ∙ ap (λ (k : ℕ). map record_of (queued f.plan (ds (attempt_begun f)) (order f.plan.b (turns_made f)) k i))
+          (all-exchanged f.plan.b (turns_made f) (sym written ∙ all))
 
   pub overflowed : (j : ℕ) → f.stop ≡ Some (stop.StashOverflow j) → is_finished f.plan (ds (attempt_begun f)) (turns_made f) ≡ true
   overflowed j stopped =

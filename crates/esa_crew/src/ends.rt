@@ -2,22 +2,27 @@
 //!
 //! The functions do nothing when they run. They are there so that each law is proved where a contract names it.
 
-ghost use Rattle.std.specs.Prelude.{◌≡◌, ◌≢◌, ℕ, ◌+◌, ◌*◌, ◌<◌, ◌++◌, true, false, None, Some, List, length};
+ghost use Rattle.std.specs.Prelude.{◌≡◌, ◌≢◌, ℕ, ◌+◌, ◌*◌, ◌<◌, ◌++◌, true, false, None, Some, List, length, map};
+ghost use Rattle.esa_device.specs.Logs.{Took};
 ghost use Rattle.esa_outside.specs.Cause.{Rose};
 ghost use Rattle.esa_params.specs.Sizes.{Sizes};
-ghost use Rattle.esa_params.specs.Slots.{at, slot_number};
+ghost use Rattle.esa_params.specs.Slots.{at, number_of, slot_number};
 ghost use Rattle.esa_params.specs.declared.slot.Access.{Access};
 ghost use Rattle.esa_params.specs.declared.slot.Op.{Op};
+ghost use Rattle.esa_report.specs.declared.item.Item.{Item};
 ghost use Rattle.esa_spec.specs.Draws.{Draw};
-ghost use Rattle.esa_spec.specs.Traces.{attempt_trace, drain, is_failed, load, spread};
+ghost use Rattle.esa_spec.specs.Lines.{tail};
+ghost use Rattle.esa_spec.specs.Traces.{attempt_trace, chunk_slot, drain, is_failed, load, spread};
 ghost use Rattle.esa_spec.specs.Turns.{order};
 ghost use Rattle.esa_spec.specs.Verdicts.{failing, is_finished, is_good, left, verdict};
+ghost use Rattle.esa_stash.specs.Stash.{queue_at};
 ghost use Rattle.esa_vault.specs.Seals.{opens};
+ghost use Rattle.esa_floor.specs.Keeping.{HasInput, QueuesHold, SlotsHold, chunk_block};
 ghost use Rattle.esa_floor.specs.Parts.{Parts, begun_as, ended_as};
 ghost use Rattle.esa_floor.specs.Standing.{Begins, EndsWith, Stands, attempt_begun, items_in, turns_made};
 ghost use Rattle.esa_floor.specs.declared.turn.Outcome.{Outcome};
 ghost use Rattle.esa_floor.specs.declared.turn.Stop.{Stop};
-ghost use Rattle.esa_crew.specs.Ends.{HasMade, IsLoading, IsOver};
+ghost use Rattle.esa_floor.specs.Ends.{HasMade, IsLoading, IsOver};
 
 use esa_device::Device;
 
@@ -39,6 +44,18 @@ pub fn drains_follow<V: Device>()
         → failing f.plan (ds (attempt_begun f)) (order f.plan.b (turns_made f)) ≡ None }
     ensures accesses { (p : Sizes) (d : Draw) (a : ℕ) (h : List ℕ) → failing p d (order p.b h) ≡ None → is_finished p d h ≡ true
         → attempt_trace p d a h ≡ spread p d a h ++ drain p d a (left p d (order p.b h)) }
+{}
+
+/// Where all chunks are written, each slot of Mid has the block of its chunk, and each queue what is left for its target: of
+/// the records of the places, where the slots and the queues held the records of the input all along.
+pub fn written_chunks_are_stored<V: Device>()
+    ensures slots { (p : Sizes) (ds : ℕ → Draw) (f : Parts V) (record_of : ℕ → Item) → Stands V.faults p ds f → f.attempt ≢ None → f.stop ≡ None
+        → f.counted.writes ≡ f.plan.b * f.plan.b → SlotsHold ds f → HasInput f record_of → (j i : ℕ) → j < f.plan.b → i < f.plan.b
+        → Took f.plan (number_of f.plan (chunk_slot f.plan j i))
+        (chunk_block f.plan f.run (attempt_begun f) (ds (attempt_begun f)) record_of (order f.plan.b (turns_made f)) j i) f.recorder.log }
+    ensures queues { (p : Sizes) (ds : ℕ → Draw) (f : Parts V) (record_of : ℕ → Item) → Stands V.faults p ds f → f.attempt ≢ None → f.stop ≡ None
+        → f.counted.writes ≡ f.plan.b * f.plan.b → QueuesHold ds f → HasInput f record_of → (i : ℕ) → i < f.plan.b
+        → queue_at f.stash i ≡ map record_of (tail f.plan (ds (attempt_begun f)) (order f.plan.b (turns_made f)) i) }
 {}
 
 /// What an attempt has made goes on with the accesses that are made without a turn. They leave all but the recorder and what
