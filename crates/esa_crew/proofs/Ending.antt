@@ -1,5 +1,5 @@
 -- Whether the turns of an attempt are finished, by what a floor holds.
-use Rattle.std.proofs.Common.{◌≡◌, ◌≢◌, ℕ, ◌+◌, ◌*◌, ◌<◌, true, false, List, [], ◌∷◌, ◌++◌, length, take, drop, get_or, Option, Some, None, sym, ap, ◌∙◌, subst, arith, take-append-drop, length-append}
+use Rattle.std.proofs.Common.{◌≡◌, ◌≢◌, ℕ, ◌+◌, ◌*◌, ◌<◌, true, false, List, [], ◌∷◌, ◌++◌, length, take, drop, get_or, Option, Some, None, refl, sym, ap, ◌∙◌, subst, arith, take-append-drop, length-append}
 use Rattle.std.specs.Prelude.{is_some, ◌||◌, ◌==◌}
 use Rattle.std.proofs.lemmas.List.{length-take-le, take_more}
 use Rattle.esa_laws.proofs.AfterLaws.{keeps}
@@ -63,6 +63,19 @@ module _ {V : Type 0} (faults : V → ℕ) (p : Sizes) (ds : ℕ → Draw) (f : 
   overflowed j stopped =
       let why = subst (λ (s : Option Stop). StopsAt faults (ds (attempt_begun f)) (attempt_begun f) f at_work.done s) stopped at_work.stops in
       finished_by f.plan (ds (attempt_begun f)) (turns_made f) at_work.done j why.0 why.1 at_work.spread.runs why.2
+
+  stopped_behind : (s : Stop) → StopsAt faults (ds (attempt_begun f)) (attempt_begun f) f at_work.done (Some s) → at_work.done < length (turns_made f)
+  stopped_behind (stop.StashOverflow j) why = why.0
+  stopped_behind (stop.DeviceFault number) why = why.0
+  stopped_behind (stop.Tampered number) why = why.0
+
+  -- an attempt of which no turn was made has not stopped
+  pub not_stopped : turns_made f ≡ [] → (s : Option Stop) → f.stop ≡ s → s ≡ None
+  not_stopped none None is = refl
+  not_stopped none (Some s) is =
+      let inside = stopped_behind s (subst (λ (s : Option Stop). StopsAt faults (ds (attempt_begun f)) (attempt_begun f) f at_work.done s) is at_work.stops) in
+      let empty = ap length none in
+      absurd (omega (arith, inside, empty))
 
   -- where it is unbroken and nothing is left to do, its turns are finished
   pub finishes : (s : Option Stop) → f.stop ≡ s → IsUnbroken s → (f.stop ≡ None → f.counted.writes ≡ f.plan.b * f.plan.b)

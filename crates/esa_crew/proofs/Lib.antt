@@ -1,5 +1,6 @@
 mod Beginning
 mod Ending
+mod Finishing
 mod Loading
 mod Posting
 mod Replaying

@@ -24,7 +24,7 @@ none_waits zero c s i = refl
 none_waits (suc b) c s zero = refl
 none_waits (suc b) c s (suc i) = none_waits b c s i
 
-fresh : (p : Sizes) (d : Draw) → IsSpread p d [] (empty_stash p.b p.c p.s) (no_counts p.b) nothing_counted
+pub fresh : (p : Sizes) (d : Draw) → IsSpread p d [] (empty_stash p.b p.c p.s) (no_counts p.b) nothing_counted
 fresh p d = record {
   runs = refl;
   waits = λ i inside. let none : 0 - (0 + 0 * p.c) ≡ 0 = omega arith in none_waits p.b p.c p.s i ∙ sym none;

@@ -1,3 +1,4 @@
+pub mod Ends
 pub mod Loads
 pub mod Posts
 pub mod Replays

@@ -1,5 +1,5 @@
 -- The workers of a floor, each at its post.
-use Rattle.std.specs.Prelude.{◌≡◌, ℕ, ◌<◌, List, length, slice_index_or}
+use Rattle.std.specs.Prelude.{◌≡◌, ℕ, ◌<◌, List, length, slice_index_or, None}
 use Rattle.esa_envelope.specs.declared.keys.Keys.{Keys}
 use Rattle.esa_params.specs.Sizes.{Sizes}
 use Rattle.esa_spec.specs.Draws.{Draw}
@@ -35,10 +35,12 @@ pub record KeepsRecords {V C : Type 0} (ds : ℕ → Draw) (f : Parts V) (w : Wo
 abbrev pub AllHold : {V C : Type 0} → (ℕ → Draw) → Parts V → List (Working C) → Type 0
 AllHold ds f workers = (k : ℕ) (w : Working _) → k < length workers → KeepsRecords ds f (slice_index_or workers k w)
 
--- the worker was made for a plan, with this number, keys and coins
+-- the worker was made for a plan, with this number, keys and coins. It has begun no attempt, and has nothing to prepare
 pub record IsNewWorker {C : Type 0} (coins : C) (p : Sizes) (outer run : Keys) (place : ℕ) (w : Working C) : Type 0 where
   pub number : w.number ≡ place
   pub coins_are : w.coins ≡ coins
   pub plan : w.buffers.plan ≡ p
   pub outer_are : w.outer ≡ outer
   pub run_are : w.run ≡ run
+  pub attempt : w.attempt ≡ None
+  pub ready : IsReady w.stage

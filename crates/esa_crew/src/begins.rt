@@ -1,7 +1,7 @@
 //! How a crew begins an attempt.
 
 ghost use Rattle.std.specs.Prelude.{◌≡◌, ◌<◌, [], length};
-ghost use Rattle.esa_floor.specs.Keeping.{QueuesHold};
+ghost use Rattle.esa_floor.specs.Keeping.{QueuesHold, SlotsHold};
 ghost use Rattle.esa_floor.specs.Parts.{begun_as};
 ghost use Rattle.esa_floor.specs.Standing.{Stands, turns_made};
 ghost use Rattle.esa_crew.specs.Posts.{AllHold, AreMembers, ArePosts};
@@ -27,6 +27,7 @@ pub fn begin<V: Device, G: Told, C: Coins>(
     ensures each { length workers.new ≡ length workers.old }
     ensures hold { AllHold G.draws floor.new workers.new }
     ensures queues { QueuesHold G.draws floor.new }
+    ensures slots { SlotsHold G.draws floor.new }
 {
     floor.begin(attempt);
     for place in 0..workers.len() {

@@ -1,11 +1,11 @@
 //! Turns that are handed in, taken on one thread.
 
-ghost use Rattle.std.specs.Prelude.{◌≡◌, ◌≢◌, ℕ, ◌+◌, ◌*◌, ◌<◌, ◌≤◌, ◌++◌, ◌∷◌, ◌^◌, [], None, All, true, false, length, option_to_list, slice_index};
+ghost use Rattle.std.specs.Prelude.{◌≡◌, ◌≢◌, ℕ, ◌+◌, ◌*◌, ◌<◌, ◌≤◌, ◌++◌, ◌∷◌, ◌^◌, List, [], None, All, true, false, length, option_to_list, slice_index};
 ghost use Rattle.esa_params.specs.Sizes.{ArePlanned};
 ghost use Rattle.esa_spec.specs.Completion.{completed};
 ghost use Rattle.esa_spec.specs.Traces.{asked};
 ghost use Rattle.esa_spec.specs.Turns.{next};
-ghost use Rattle.esa_floor.specs.Keeping.{QueuesHold};
+ghost use Rattle.esa_floor.specs.Keeping.{QueuesHold, QueuesHoldAfter, SlotsHold, SlotsHoldAfter, StopsAfter};
 ghost use Rattle.esa_floor.specs.Marks.{roots_of};
 ghost use Rattle.esa_floor.specs.Standing.{Stands, attempt_begun, turns_made};
 ghost use Rattle.esa_floor.specs.Working.{Working};
@@ -38,6 +38,10 @@ fn step<V: Device, G: Told, C: Coins>(floor: &mut Floor<V, G>, worker: &mut Work
     ensures holds { KeepsRecords G.draws floor.old worker.old → QueuesHold G.draws floor.old → KeepsRecords G.draws floor.new worker.new }
     ensures others_hold { (other : Working C) → KeepsRecords G.draws floor.old other → KeepsRecords G.draws floor.new other }
     ensures queues { KeepsRecords G.draws floor.old worker.old → QueuesHold G.draws floor.old → QueuesHold G.draws floor.new }
+    ensures slots { KeepsRecords G.draws floor.old worker.old → SlotsHold G.draws floor.old → SlotsHold G.draws floor.new }
+    ensures stops { floor.new.stop ≢ None → StopsAfter V.faults G.draws (turns_made floor.old) floor.new }
+    ensures queues_before { floor.new.stop ≢ None → QueuesHold G.draws floor.old → QueuesHoldAfter G.draws (turns_made floor.old) floor.new }
+    ensures slots_before { floor.new.stop ≢ None → SlotsHold G.draws floor.old → SlotsHoldAfter G.draws (turns_made floor.old) floor.new }
 {
     let _ = floor.turn(worker);
     worker.prepare();
@@ -67,6 +71,10 @@ fn step_of<V: Device, G: Told, C: Coins>(
     ensures each { length workers.new ≡ length workers.old }
     ensures hold { AllHold G.draws floor.old workers.old → QueuesHold G.draws floor.old → AllHold G.draws floor.new workers.new }
     ensures queues { AllHold G.draws floor.old workers.old → QueuesHold G.draws floor.old → QueuesHold G.draws floor.new }
+    ensures slots { AllHold G.draws floor.old workers.old → SlotsHold G.draws floor.old → SlotsHold G.draws floor.new }
+    ensures stops { floor.new.stop ≢ None → StopsAfter V.faults G.draws (turns_made floor.old) floor.new }
+    ensures queues_before { floor.new.stop ≢ None → QueuesHold G.draws floor.old → QueuesHoldAfter G.draws (turns_made floor.old) floor.new }
+    ensures slots_before { floor.new.stop ≢ None → SlotsHold G.draws floor.old → SlotsHoldAfter G.draws (turns_made floor.old) floor.new }
 {
     let worker = &mut workers[number as usize];
     step(floor, worker);
@@ -130,6 +138,10 @@ pub fn replay<V: Device, G: Told, C: Coins>(
     ensures each { length workers.new ≡ length workers.old }
     ensures hold { AllHold G.draws floor.old workers.old → QueuesHold G.draws floor.old → AllHold G.draws floor.new workers.new }
     ensures queues { AllHold G.draws floor.old workers.old → QueuesHold G.draws floor.old → QueuesHold G.draws floor.new }
+    ensures slots { AllHold G.draws floor.old workers.old → QueuesHold G.draws floor.old → SlotsHold G.draws floor.old → SlotsHold G.draws floor.new }
+    ensures stops { floor.new.stop ≢ None → (before : List ℕ) × StopsAfter V.faults G.draws before floor.new
+        × (AllHold G.draws floor.old workers.old → QueuesHold G.draws floor.old → SlotsHold G.draws floor.old
+        → QueuesHoldAfter G.draws before floor.new × SlotsHoldAfter G.draws before floor.new) }
 {
     let plan = floor.plan();
     for made in 0..most_turns(&plan, turns) {

@@ -124,9 +124,9 @@ module _ {V C : Type 0} (d : Draw) (target_list : ℕ → ℕ → List ℕ) (f n
     turn_chunks n (Exchange j) is dealt left = exchange_holds n j is dealt.0 dealt.1 left.0 left.1
     turn_chunks n (Write j i) is deals left =
         kept_chunks f.plan d record_of h n v.bucket v.buffers.chunks
-        (subst (λ (k : ℕ). AreChunks f.plan d record_of (order f.plan.b h) k v.buffers.chunks) (sym left.1)
-        (subst (λ (xs : List Item). AreChunks f.plan d record_of (order f.plan.b h) w.bucket xs) (sym left.2)
-        (before left.0 (subst (λ (k : ℕ). k < f.plan.b) left.1 inside))))
+        (subst (λ (k : ℕ). AreChunks f.plan d record_of (order f.plan.b h) k v.buffers.chunks) (left.1 ∙ sym left.2)
+        (subst (λ (xs : List Item). AreChunks f.plan d record_of (order f.plan.b h) w.bucket xs) (sym left.3)
+        (before left.0 (subst (λ (k : ℕ). k < f.plan.b) (left.2 ∙ sym left.1) inside))))
     turn_chunks n Done is deals first = absurd (omega (arith, third, first))
     turn_chunks n Idle is deals past = absurd (omega (arith, inside, past))
 

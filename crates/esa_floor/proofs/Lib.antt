@@ -13,4 +13,6 @@ pub mod Resting
 mod Rounding
 mod Sealing
 mod Spreading
+mod Stopping
+pub mod Storing
 pub mod Turning

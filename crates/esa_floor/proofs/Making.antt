@@ -28,7 +28,7 @@ use Rattle.esa_stash.specs.Stash.{Handed, total}
 use Rattle.esa_stash.specs.Stash as stash
 use Rattle.esa_vault.specs.Placed.{IsHeld, IsSpelled}
 use Rattle.esa_vault.specs.Seals.{opens}
-use Rattle.esa_floor.specs.Acts.{StopsExchanging, StopsReading, StopsWriting, answer_of, answered, counted_after}
+use Rattle.esa_floor.specs.Acts.{StopsExchanging, StopsReading, StopsWriting, WorksOn, answer_of, answered, counted_after}
 use Rattle.esa_floor.specs.Exchanges.{AreOf, Exchanges}
 use Rattle.esa_floor.specs.Parts.{Counted, Parts, with_entry}
 use Rattle.esa_floor.specs.Standing.{IsAtWork, turns_made}
@@ -77,14 +77,14 @@ module _ {V : Type 0} (faults : V → ℕ) (ds : ℕ → Draw) (f : Parts V) (a 
   other : (e : Event) → next f.plan.b h w ≡ e → exchanged e ≡ None → (r : Recorded V) (counted : Counted)
       → r.trace ≡ f.recorder.trace ++ option_to_list (asked f.plan a e) → faults r.device ≡ faults f.recorder.device
       → counted.claims ≡ min (claims f.plan.b (h ++ w ∷ [])) f.plan.b → counted.writes ≡ writes f.plan.b (h ++ w ∷ [])
-      → IsAtWork faults ds (turned f w r f.stash f.counts counted None) a
+      → WorksOn faults ds (turned f w r f.stash f.counts counted None) a (length h)
   other e is none r counted more calm claimed wrote =
       stands_good faults ds f a w at_work worker runs r f.stash f.counts counted
       (more ∙ ap (λ (e : Event). f.recorder.trace ++ option_to_list (asked f.plan a e)) (sym is)) calm
       (spread-other f.plan (ds a) h w f.stash f.counts f.counted counted (ap exchanged is ∙ none) (spread_is faults ds f a w at_work worker runs) claimed wrote)
 
   pub claim_stands : next_phase f.plan.b h w ≡ 0
-      → IsAtWork faults ds (turned f w f.recorder f.stash f.counts (record f.counted { claims = min (f.counted.claims + 1) f.plan.b }) None) a
+      → WorksOn faults ds (turned f w f.recorder f.stash f.counts (record f.counted { claims = min (f.counted.claims + 1) f.plan.b }) None) a (length h)
   claim_stands first = elim (cases_lt (claims f.plan.b h) f.plan.b) [
     | inl some ↦
         let is = next_claims f.plan.b h w first some in
@@ -97,7 +97,7 @@ module _ {V : Type 0} (faults : V → ℕ) (ds : ℕ → Draw) (f : Parts V) (a 
   ]
 
   pub idle_stands : next_phase f.plan.b h w ≢ 0 → f.plan.b ≤ held f.plan.b h w
-      → IsAtWork faults ds (turned f w f.recorder f.stash f.counts f.counted None) a
+      → WorksOn faults ds (turned f w f.recorder f.stash f.counts f.counted None) a (length h)
   idle_stands more none =
       let is = next_is_idle f.plan.b h w more none in
       other Idle is refl f.recorder f.counted (sym (append-nil f.recorder.trace)) refl (claims_later more) (writes_same Idle is refl)
@@ -108,25 +108,25 @@ module _ {V : Type 0} (faults : V → ℕ) (ds : ℕ → Draw) (f : Parts V) (a 
   pub read_stands : (j : ℕ) → next f.plan.b h w ≡ Read j → next_phase f.plan.b h w ≢ 0 → (r : Recorded V)
       → r.trace ≡ f.recorder.trace ++ access_of f.plan a Reads (at Input j) ∷ [] → (s : Option Stop)
       → StopsReading (number_of f.plan (at Input j)) (opens f.plan f.run (at Input j) a 0 r.last) (faults f.recorder.device) (faults r.device) s
-      → IsAtWork faults ds (turned f w r f.stash f.counts f.counted s) a
+      → WorksOn faults ds (turned f w r f.stash f.counts f.counted s) a (length h)
   read_stands j is later r more None went =
       other (Read j) is refl r f.counted more went.1 (claims_later later) (writes_same (Read j) is refl)
   read_stands j is later r more (Some (stop.DeviceFault n)) went =
-      subst (λ (n : ℕ). IsAtWork faults ds (turned f w r f.stash f.counts f.counted (Some (stop.DeviceFault n))) a) (sym went.0)
+      subst (λ (n : ℕ). WorksOn faults ds (turned f w r f.stash f.counts f.counted (Some (stop.DeviceFault n))) a (length h)) (sym went.0)
       (stands_fault faults ds f a w at_work worker runs r (access_of f.plan a Reads (at Input j)) (ap (asked f.plan a) is) more (rose r went.1))
   read_stands j is later r more (Some (stop.Tampered n)) went =
-      subst (λ (n : ℕ). IsAtWork faults ds (turned f w r f.stash f.counts f.counted (Some (stop.Tampered n))) a) (sym (went.0 ∙ zero-add j))
+      subst (λ (n : ℕ). WorksOn faults ds (turned f w r f.stash f.counts f.counted (Some (stop.Tampered n))) a (length h)) (sym (went.0 ∙ zero-add j))
       (stands_tampered faults ds f a w at_work worker runs r j is more went.2 went.1)
   read_stands j is later r more (Some (stop.StashOverflow k)) never = absurd never
 
   pub write_stands : (j i : ℕ) → next f.plan.b h w ≡ Write j i → next_phase f.plan.b h w ≢ 0 → (r : Recorded V)
       → r.trace ≡ f.recorder.trace ++ access_of f.plan a Writes (chunk_slot f.plan j i) ∷ [] → (s : Option Stop)
       → StopsWriting (number_of f.plan (chunk_slot f.plan j i)) (faults f.recorder.device) (faults r.device) s
-      → IsAtWork faults ds (turned f w r f.stash f.counts (counted_after f.counted s) s) a
+      → WorksOn faults ds (turned f w r f.stash f.counts (counted_after f.counted s) s) a (length h)
   write_stands j i is later r more None went =
       other (Write j i) is refl r (record f.counted { writes = f.counted.writes + 1 }) more went (claims_later later) (writes_more j i is)
   write_stands j i is later r more (Some (stop.DeviceFault n)) went =
-      subst (λ (n : ℕ). IsAtWork faults ds (turned f w r f.stash f.counts f.counted (Some (stop.DeviceFault n))) a) (sym went.0)
+      subst (λ (n : ℕ). WorksOn faults ds (turned f w r f.stash f.counts f.counted (Some (stop.DeviceFault n))) a (length h)) (sym went.0)
       (stands_fault faults ds f a w at_work worker runs r (access_of f.plan a Writes (chunk_slot f.plan j i)) (ap (asked f.plan a) is) more (rose r went.1))
   write_stands j i is later r more (Some (stop.Tampered n)) never = absurd never
   write_stands j i is later r more (Some (stop.StashOverflow k)) never = absurd never
@@ -139,7 +139,7 @@ module _ {V : Type 0} (faults : V → ℕ) (ds : ℕ → Draw) (f : Parts V) (a 
       was = record { plan = f.plan; stash = f.stash; counts = f.counts }
 
       pub exchange_stands : (new : Exchanges) (s : Option Stop) → StopsExchanging was new j (targets, items) s
-          → IsAtWork faults ds (turned f w f.recorder new.stash new.counts f.counted s) a
+          → WorksOn faults ds (turned f w f.recorder new.stash new.counts f.counted s) a (length h)
       exchange_stands new None went =
           let made = went.1 in
           stands_good faults ds f a w at_work worker runs f.recorder new.stash new.counts f.counted
@@ -151,34 +151,34 @@ module _ {V : Type 0} (faults : V → ℕ) (ds : ℕ → Draw) (f : Parts V) (a 
           let over : nat_lt f.plan.s (total (stash.exchanged f.stash (targets, items))) ≡ true = let above = went.1 in grind (arith, nat_tests) in
           let at_j = stands_overflow faults ds f a w at_work worker runs f.recorder j is
           (overflow_is f.plan (ds a) h w j f.stash new.stash targets items f.counts new.counts f.counted (ap exchanged is) (spread_is faults ds f a w at_work worker runs) of drawn same each ∙ over) refl refl in
-          subst (λ (e : Exchanges). IsAtWork faults ds (turned f w f.recorder e.stash e.counts f.counted (Some (stop.StashOverflow k))) a) (sym went.2)
-          (subst (λ (k : ℕ). IsAtWork faults ds (turned f w f.recorder f.stash f.counts f.counted (Some (stop.StashOverflow k))) a) (sym went.0) at_j)
+          subst (λ (e : Exchanges). WorksOn faults ds (turned f w f.recorder e.stash e.counts f.counted (Some (stop.StashOverflow k))) a (length h)) (sym went.2)
+          (subst (λ (k : ℕ). WorksOn faults ds (turned f w f.recorder f.stash f.counts f.counted (Some (stop.StashOverflow k))) a (length h)) (sym went.0) at_j)
       exchange_stands new (Some (stop.DeviceFault n)) never = absurd never
       exchange_stands new (Some (stop.Tampered n)) never = absurd never
 
   -- the same of the floor that an act made, which has not got its entry
   pub claim_made : (new : Parts V) → new ≡ record f { counted = record f.counted { claims = min (f.counted.claims + 1) f.plan.b } }
-      → next_phase f.plan.b h w ≡ 0 → IsAtWork faults ds (with_entry new w) a
+      → next_phase f.plan.b h w ≡ 0 → WorksOn faults ds (with_entry new w) a (length h)
   claim_made new is first =
-      subst (λ (x : Parts V). IsAtWork faults ds (with_entry x w) a) (sym is)
-      (subst (λ (s : Option Stop). IsAtWork faults ds (turned f w f.recorder f.stash f.counts (record f.counted { claims = min (f.counted.claims + 1) f.plan.b }) s) a) (sym runs) (claim_stands first))
+      subst (λ (x : Parts V). WorksOn faults ds (with_entry x w) a (length h)) (sym is)
+      (subst (λ (s : Option Stop). WorksOn faults ds (turned f w f.recorder f.stash f.counts (record f.counted { claims = min (f.counted.claims + 1) f.plan.b }) s) a (length h)) (sym runs) (claim_stands first))
 
-  pub idle_made : next_phase f.plan.b h w ≢ 0 → f.plan.b ≤ held f.plan.b h w → IsAtWork faults ds (with_entry f w) a
-  idle_made more none = subst (λ (s : Option Stop). IsAtWork faults ds (turned f w f.recorder f.stash f.counts f.counted s) a) (sym runs) (idle_stands more none)
+  pub idle_made : next_phase f.plan.b h w ≢ 0 → f.plan.b ≤ held f.plan.b h w → WorksOn faults ds (with_entry f w) a (length h)
+  idle_made more none = subst (λ (s : Option Stop). WorksOn faults ds (turned f w f.recorder f.stash f.counts f.counted s) a (length h)) (sym runs) (idle_stands more none)
 
   pub read_made : (new : Parts V) → new ≡ record f { recorder = new.recorder; stop = new.stop } → (j : ℕ) → next f.plan.b h w ≡ Read j → next_phase f.plan.b h w ≢ 0
       → new.recorder.trace ≡ f.recorder.trace ++ access_of f.plan a Reads (at Input j) ∷ []
       → StopsReading (number_of f.plan (at Input j)) (opens f.plan f.run (at Input j) a 0 new.recorder.last) (faults f.recorder.device) (faults new.recorder.device) new.stop
-      → IsAtWork faults ds (with_entry new w) a
+      → WorksOn faults ds (with_entry new w) a (length h)
   read_made new same j is later more went =
-      subst (λ (x : Parts V). IsAtWork faults ds (with_entry x w) a) (sym same) (read_stands j is later new.recorder more new.stop went)
+      subst (λ (x : Parts V). WorksOn faults ds (with_entry x w) a (length h)) (sym same) (read_stands j is later new.recorder more new.stop went)
 
   pub write_made : (new : Parts V) → new ≡ record f { recorder = new.recorder; counted = counted_after f.counted new.stop; stop = new.stop } → (j i : ℕ) → next f.plan.b h w ≡ Write j i → next_phase f.plan.b h w ≢ 0
       → new.recorder.trace ≡ f.recorder.trace ++ access_of f.plan a Writes (chunk_slot f.plan j i) ∷ []
       → StopsWriting (number_of f.plan (chunk_slot f.plan j i)) (faults f.recorder.device) (faults new.recorder.device) new.stop
-      → IsAtWork faults ds (with_entry new w) a
+      → WorksOn faults ds (with_entry new w) a (length h)
   write_made new same j i is later more went =
-      subst (λ (x : Parts V). IsAtWork faults ds (with_entry x w) a) (sym same) (write_stands j i is later new.recorder more new.stop went)
+      subst (λ (x : Parts V). WorksOn faults ds (with_entry x w) a (length h)) (sym same) (write_stands j i is later new.recorder more new.stop went)
 
   -- how many rounds were begun, where a bucket is left, and where none is
   pub next_is_claim : next_phase f.plan.b h w ≡ 0 → f.counted.claims < f.plan.b → next f.plan.b h w ≡ Claim f.counted.claims
@@ -197,11 +197,11 @@ module _ {V : Type 0} (faults : V → ℕ) (ds : ℕ → Draw) (f : Parts V) (a 
 
   -- the same in the words of the worker and of the floor as it was lent
   pub claim_some : (new : Parts V) → new ≡ record f { counted = record f.counted { claims = f.counted.claims + 1 } } → f.counted.claims < f.plan.b
-      → next_phase f.plan.b h w ≡ 0 → IsAtWork faults ds (with_entry new w) a
+      → next_phase f.plan.b h w ≡ 0 → WorksOn faults ds (with_entry new w) a (length h)
   claim_some new is some first =
       claim_made new (is ∙ ap (λ (n : ℕ). record f { counted = record f.counted { claims = n } }) (omega arith)) first
 
-  pub claim_none : f.plan.b ≤ f.counted.claims → next_phase f.plan.b h w ≡ 0 → IsAtWork faults ds (with_entry f w) a
+  pub claim_none : f.plan.b ≤ f.counted.claims → next_phase f.plan.b h w ≡ 0 → WorksOn faults ds (with_entry f w) a (length h)
   claim_none none first =
       let few = claims_few in
       claim_made f (ap (λ (n : ℕ). record f { counted = record f.counted { claims = n } }) (omega (arith, few, none))) first
@@ -210,7 +210,7 @@ module _ {V : Type 0} (faults : V → ℕ) (ds : ℕ → Draw) (f : Parts V) (a 
       → (p : Sizes) (o : Option ℕ) (run : Keys) (r : Recorded V) → p ≡ f.plan → o ≡ Some a → run ≡ f.run → r ≡ f.recorder
       → new.recorder.trace ≡ r.trace ++ access_of p (attempt_in o) Reads (at Input j) ∷ []
       → StopsReading (number_of p (at Input j)) (opens p run (at Input j) (attempt_in o) 0 new.recorder.last) (faults r.device) (faults new.recorder.device) new.stop
-      → IsAtWork faults ds (with_entry new w) a
+      → WorksOn faults ds (with_entry new w) a (length h)
   read_here new same j is later p o run r plan attempt keys recorder more went =
       read_made new same j is later
       (more ∙ ap (λ (r : Recorded V). r.trace ++ access_of p (attempt_in o) Reads (at Input j) ∷ []) recorder
@@ -225,7 +225,7 @@ module _ {V : Type 0} (faults : V → ℕ) (ds : ℕ → Draw) (f : Parts V) (a 
       → (p : Sizes) (o : Option ℕ) (r : Recorded V) → p ≡ f.plan → o ≡ Some a → r ≡ f.recorder
       → new.recorder.trace ≡ r.trace ++ access_of p (attempt_in o) Writes (chunk_slot p j i) ∷ []
       → StopsWriting (number_of p (chunk_slot p j i)) (faults r.device) (faults new.recorder.device) new.stop
-      → IsAtWork faults ds (with_entry new w) a
+      → WorksOn faults ds (with_entry new w) a (length h)
   write_here new same j i is later p o r plan attempt recorder more went =
       write_made new same j i is later
       (more ∙ ap (λ (r : Recorded V). r.trace ++ access_of p (attempt_in o) Writes (chunk_slot p j i) ∷ []) recorder
@@ -250,7 +250,7 @@ module _ {V : Type 0} (faults : V → ℕ) (ds : ℕ → Draw) (f : Parts V) (a 
       → length ((ds a).targets j) ≡ size f.plan j
       → AreDrawn (drawn (attempt_in o) j) b j → AreOpened outer b j → length b.text ≡ size b.plan 0 * envelope_length b.plan.form
       → AreOf old.plan old.stash old.counts → StopsExchanging old e j (handed_by b j) s
-      → IsAtWork faults ds (with_entry new w) a
+      → WorksOn faults ds (with_entry new w) a (length h)
   exchange_here new e old s same is_was j is later b outer o drawn plan attempt draws long targets opened text of went =
       let of_f = subst (λ (x : Exchanges). AreOf x.plan x.stash x.counts) is_was of in
       let went_f = subst (λ (x : Exchanges). StopsExchanging x e j (handed_by b j) s) is_was went in
@@ -264,7 +264,7 @@ module _ {V : Type 0} (faults : V → ℕ) (ds : ℕ → Draw) (f : Parts V) (a 
       let filled = subst (All IsHeld) (sym opened) (opened_are_held outer (envelope_length b.plan.form) b.text (size b.plan j)) in
       let spelled = subst (All (IsSpelled (item_length b.plan.form))) (sym opened) (opened_are_spelled outer b.plan.form b.text (size b.plan j) fits) in
       let spelled_f = subst (λ (p : Sizes). All (IsSpelled (item_length p.form)) (take (size b.plan j) b.items)) plan spelled in
-      subst (λ (x : Parts V). IsAtWork faults ds (with_entry x w) a) (sym same)
+      subst (λ (x : Parts V). WorksOn faults ds (with_entry x w) a (length h)) (sym same)
       (exchange_stands j is later (take (size b.plan j) b.targets) (take (size b.plan j) b.items) of_f long drawn_is each filled spelled_f e s went_f)
 
 -- the answer, by the event
@@ -278,3 +278,10 @@ exchange_keeps old e j handed None went = went.1.plan
 exchange_keeps old e j handed (Some (stop.StashOverflow k)) went = ap (λ (x : Exchanges). x.plan) went.2
 exchange_keeps old e j handed (Some (stop.DeviceFault n)) never = absurd never
 exchange_keeps old e j handed (Some (stop.Tampered n)) never = absurd never
+
+-- and what waits, where it overflows
+pub exchange_stays : (old e : Exchanges) (j : ℕ) (handed : Handed) (s : Option Stop) → StopsExchanging old e j handed s → s ≢ None → e.stash ≡ old.stash
+exchange_stays old e j handed None went some = absurd (some refl)
+exchange_stays old e j handed (Some (stop.StashOverflow k)) went some = ap (λ (x : Exchanges). x.stash) went.2
+exchange_stays old e j handed (Some (stop.DeviceFault n)) never some = absurd never
+exchange_stays old e j handed (Some (stop.Tampered n)) never some = absurd never

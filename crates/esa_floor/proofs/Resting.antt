@@ -16,9 +16,10 @@ use Rattle.esa_spec.specs.Histories.{begun, latest, lists}
 use Rattle.esa_spec.specs.Traces.{all_failed, attempts, good_attempt, load, shuffle_trace, spread, written_input}
 use Rattle.esa_spec.specs.Turns.{order}
 use Rattle.esa_vault.specs.Seals.{opens}
+use Rattle.esa_floor.specs.Acts.{WorksOn, one_more}
 use Rattle.esa_floor.specs.Marks.{code_of, mark_of}
 use Rattle.esa_floor.specs.Parts.{Parts, with_entry}
-use Rattle.esa_floor.specs.Standing.{Begins, EndsAs, EndsWith, IsAt, IsAtWork, IsOf, attempt_begun, items_in, lists_before, turns_made}
+use Rattle.esa_floor.specs.Standing.{Begins, EndsAs, EndsWith, IsAt, IsAtWork, IsOf, StopsAt, attempt_begun, items_in, lists_before, turns_made}
 use Rattle.esa_floor.specs.Workers.{IsInRound, WorkerStands}
 use Rattle.esa_floor.specs.Working.{Working}
 use Rattle.esa_floor.specs.declared.turn.Outcome.{Outcome}
@@ -38,6 +39,13 @@ none_or_some s never = subst There never tt
 pub ran : (s now : Option Stop) → (s ≢ None → now ≡ s) → now ≡ None → s ≡ None
 ran None now stays runs = refl
 ran (Some s) now stays runs = sym (stays (none_or_some s)) ∙ runs
+
+-- the turns stopped at the one behind so many
+pub stops_behind : {V : Type 0} (faults : V → ℕ) (ds : ℕ → Draw) (f : Parts V) (a before : ℕ) (s : Option Stop) → f.stop ≡ s → s ≢ None
+    → WorksOn faults ds f a before → StopsAt faults (ds a) a f before f.stop
+stops_behind faults ds f a before None is some works = absurd (some refl)
+stops_behind faults ds f a before (Some s) is some works =
+    subst (λ (k : ℕ). StopsAt faults (ds a) a f k f.stop) (works.1 ∙ ap (one_more before) is) works.0.stops
 
 -- attempts up to the last but one leave the rows of one attempt
 rows : (a n x : ℕ) → a < n → a * x + x ≤ n * x

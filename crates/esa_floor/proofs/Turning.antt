@@ -19,6 +19,7 @@ use Rattle.esa_spec.specs.declared.event.Event.{Event}
 use Rattle.esa_spec.specs.declared.event.Event.TheVariants.{Exchange, Read}
 use Rattle.esa_stash.specs.Stash.{Held}
 use Rattle.esa_vault.specs.Seals.{opens}
+use Rattle.esa_floor.specs.Acts.{WorksOn}
 use Rattle.esa_floor.specs.Parts.{Counted, Parts}
 use Rattle.esa_floor.specs.Standing.{IsAtWork, IsSpread, StopsAt, lists_before, turns_made}
 use Rattle.esa_floor.specs.declared.turn.Stop.{Stop}
@@ -80,19 +81,22 @@ module _ {V : Type 0} (faults : V → ℕ) (ds : ℕ → Draw) (f : Parts V) (a 
     pub stands_good : (r : Recorded V) (held : Held) (counts : List ℕ) (counted : Counted)
         → r.trace ≡ f.recorder.trace ++ option_to_list (asked f.plan a (next f.plan.b h w)) → faults r.device ≡ faults f.recorder.device
         → IsSpread f.plan (ds a) (h ++ w ∷ []) held counts counted
-        → IsAtWork faults ds (turned f w r held counts counted None) a
-    stands_good r held counts counted more calm so_far = record {
-      done = length h + 1;
-      attempt = at_work.attempt ∙ ap (λ (n : ℕ). n - 1) (sym begun_is);
-      some_begun = subst (λ (n : ℕ). 1 ≤ n) (sym begun_is) at_work.some_begun;
-      planned = at_work.planned;
-      earlier = ap (all_failed f.plan ds 0) lists_are ∙ at_work.earlier;
-      traced = traced_on r.trace (length h + 1) (latest f.plan.workers (f.history ++ w ∷ [])) (lists f.plan.workers (f.history ++ w ∷ [])) turns_are lists_are
-          (traced_more r.trace more ∙ ap (λ (g : List ℕ). (load f.plan ++ attempts f.plan ds 0 (lists_before f)) ++ spread f.plan (ds a) a g) (sym (whole (length h + 1) (omega arith))));
-      spread = subst (λ (g : List ℕ). IsSpread f.plan (ds a) g held counts counted)
-          (sym (ap (take (length h + 1)) turns_are ∙ whole (length h) (omega arith))) so_far;
-      stops = (let long = length-append h (w ∷ []) in let same = ap length turns_are in omega arith, calm ∙ all_made.1);
-    }
+        → WorksOn faults ds (turned f w r held counts counted None) a (length h)
+    stands_good r held counts counted more calm so_far = (
+      record {
+        done = length h + 1;
+        attempt = at_work.attempt ∙ ap (λ (n : ℕ). n - 1) (sym begun_is);
+        some_begun = subst (λ (n : ℕ). 1 ≤ n) (sym begun_is) at_work.some_begun;
+        planned = at_work.planned;
+        earlier = ap (all_failed f.plan ds 0) lists_are ∙ at_work.earlier;
+        traced = traced_on r.trace (length h + 1) (latest f.plan.workers (f.history ++ w ∷ [])) (lists f.plan.workers (f.history ++ w ∷ [])) turns_are lists_are
+            (traced_more r.trace more ∙ ap (λ (g : List ℕ). (load f.plan ++ attempts f.plan ds 0 (lists_before f)) ++ spread f.plan (ds a) a g) (sym (whole (length h + 1) (omega arith))));
+        spread = subst (λ (g : List ℕ). IsSpread f.plan (ds a) g held counts counted)
+            (sym (ap (take (length h + 1)) turns_are ∙ whole (length h) (omega arith))) so_far;
+        stops = (let long = length-append h (w ∷ []) in let same = ap length turns_are in omega arith, calm ∙ all_made.1);
+      },
+      refl,
+    )
 
     front_before : take (length h) (latest f.plan.workers (f.history ++ w ∷ [])) ≡ h
     front_before = ap (take (length h)) turns_are ∙ take-append-le (length h) h (w ∷ []) (omega arith) ∙ take_all (length h) h (omega arith)
@@ -101,18 +105,21 @@ module _ {V : Type 0} (faults : V → ℕ) (ds : ℕ → Draw) (f : Parts V) (a 
     failed : (r : Recorded V) (stopped : Stop)
         → r.trace ≡ f.recorder.trace ++ option_to_list (asked f.plan a (next f.plan.b h w))
         → StopsAt faults (ds a) a (turned f w r f.stash f.counts f.counted (Some stopped)) (length h) (Some stopped)
-        → IsAtWork faults ds (turned f w r f.stash f.counts f.counted (Some stopped)) a
-    failed r stopped more why = record {
-      done = length h;
-      attempt = at_work.attempt ∙ ap (λ (n : ℕ). n - 1) (sym begun_is);
-      some_begun = subst (λ (n : ℕ). 1 ≤ n) (sym begun_is) at_work.some_begun;
-      planned = at_work.planned;
-      earlier = ap (all_failed f.plan ds 0) lists_are ∙ at_work.earlier;
-      traced = traced_on r.trace (length h) (latest f.plan.workers (f.history ++ w ∷ [])) (lists f.plan.workers (f.history ++ w ∷ [])) turns_are lists_are
-          (traced_more r.trace more ∙ ap (λ (g : List ℕ). (load f.plan ++ attempts f.plan ds 0 (lists_before f)) ++ spread f.plan (ds a) a g) (sym (whole (length h) (omega arith))));
-      spread = subst (λ (g : List ℕ). IsSpread f.plan (ds a) g f.stash f.counts f.counted) (sym front_before) spread_is;
-      stops = why;
-    }
+        → WorksOn faults ds (turned f w r f.stash f.counts f.counted (Some stopped)) a (length h)
+    failed r stopped more why = (
+      record {
+        done = length h;
+        attempt = at_work.attempt ∙ ap (λ (n : ℕ). n - 1) (sym begun_is);
+        some_begun = subst (λ (n : ℕ). 1 ≤ n) (sym begun_is) at_work.some_begun;
+        planned = at_work.planned;
+        earlier = ap (all_failed f.plan ds 0) lists_are ∙ at_work.earlier;
+        traced = traced_on r.trace (length h) (latest f.plan.workers (f.history ++ w ∷ [])) (lists f.plan.workers (f.history ++ w ∷ [])) turns_are lists_are
+            (traced_more r.trace more ∙ ap (λ (g : List ℕ). (load f.plan ++ attempts f.plan ds 0 (lists_before f)) ++ spread f.plan (ds a) a g) (sym (whole (length h) (omega arith))));
+        spread = subst (λ (g : List ℕ). IsSpread f.plan (ds a) g f.stash f.counts f.counted) (sym front_before) spread_is;
+        stops = why;
+      },
+      refl,
+    )
 
     at_end : take (length h) (h ++ w ∷ []) ≡ h
     at_end = take-append-le (length h) h (w ∷ []) (omega arith) ∙ take_all (length h) h (omega arith)
@@ -124,7 +131,7 @@ module _ {V : Type 0} (faults : V → ℕ) (ds : ℕ → Draw) (f : Parts V) (a 
     pub stands_overflow : (r : Recorded V) (j : ℕ) → next f.plan.b h w ≡ Exchange j
         → overflows f.plan (ds a) (order f.plan.b h ++ j ∷ []) (length (order f.plan.b h)) ≡ true
         → r.trace ≡ f.recorder.trace → faults r.device ≡ faults f.recorder.device
-        → IsAtWork faults ds (turned f w r f.stash f.counts f.counted (Some (stop.StashOverflow j))) a
+        → WorksOn faults ds (turned f w r f.stash f.counts f.counted (Some (stop.StashOverflow j))) a (length h)
     stands_overflow r j event over same calm =
         failed r (stop.StashOverflow j)
         (same ∙ sym (append-nil f.recorder.trace) ∙ ap (λ (e : Event). f.recorder.trace ++ option_to_list (asked f.plan a e)) (sym event))
@@ -137,7 +144,7 @@ module _ {V : Type 0} (faults : V → ℕ) (ds : ℕ → Draw) (f : Parts V) (a 
     -- an access that failed
     pub stands_fault : (r : Recorded V) (access : Access) → asked f.plan a (next f.plan.b h w) ≡ Some access
         → r.trace ≡ f.recorder.trace ++ access ∷ [] → Rose f.faults (faults r.device)
-        → IsAtWork faults ds (turned f w r f.stash f.counts f.counted (Some (stop.DeviceFault (slot_number f.plan access)))) a
+        → WorksOn faults ds (turned f w r f.stash f.counts f.counted (Some (stop.DeviceFault (slot_number f.plan access)))) a (length h)
     stands_fault r access asks more rose =
         failed r (stop.DeviceFault (slot_number f.plan access))
         (more ∙ ap (λ (o : Option Access). f.recorder.trace ++ option_to_list o) (sym asks))
@@ -150,7 +157,7 @@ module _ {V : Type 0} (faults : V → ℕ) (ds : ℕ → Draw) (f : Parts V) (a 
     pub stands_tampered : (r : Recorded V) (j : ℕ) → next f.plan.b h w ≡ Read j
         → r.trace ≡ f.recorder.trace ++ option_to_list (asked f.plan a (Read j)) → faults r.device ≡ faults f.recorder.device
         → opens f.plan f.run (at Input j) a 0 r.last ≡ false
-        → IsAtWork faults ds (turned f w r f.stash f.counts f.counted (Some (stop.Tampered j))) a
+        → WorksOn faults ds (turned f w r f.stash f.counts f.counted (Some (stop.Tampered j))) a (length h)
     stands_tampered r j event more calm closed =
         failed r (stop.Tampered j)
         (more ∙ ap (λ (e : Event). f.recorder.trace ++ option_to_list (asked f.plan a e)) (sym event))

@@ -1,11 +1,13 @@
 -- What a turn's act makes of the parts of a floor, and what it answers.
 use Rattle.std.specs.Prelude.{◌≡◌, ◌≢◌, ℕ, ◌+◌, ◌<◌, ◌≤◌, Bool, true, false, Option, Some, None}
 use Rattle.esa_outside.specs.Cause.{Rose}
+use Rattle.esa_spec.specs.Draws.{Draw}
 use Rattle.esa_spec.specs.declared.event.Event.{Event}
 use Rattle.esa_spec.specs.declared.event.Event.TheVariants as event
 use Rattle.esa_stash.specs.Stash.{Handed, count, exchanged, total}
 use Rattle.esa_floor.specs.Exchanges.{Exchanges}
-use Rattle.esa_floor.specs.Parts.{Counted, count_at}
+use Rattle.esa_floor.specs.Parts.{Counted, Parts, count_at}
+use Rattle.esa_floor.specs.Standing.{IsAtWork}
 use Rattle.esa_floor.specs.declared.turn.Stop.{Stop}
 use Rattle.esa_floor.specs.declared.turn.Stop.TheVariants as stop
 use Rattle.esa_floor.specs.declared.turn.Turn.{Turn}
@@ -67,3 +69,7 @@ one_more n (Some s) = n
 
 abbrev pub counted_after : Counted → Option Stop → Counted
 counted_after c s = record c { writes = one_more c.writes s }
+
+-- an attempt is at work. One of its turns more than so many did not fail, unless the next one did
+abbrev pub WorksOn : {V : Type 0} → (V → ℕ) → (ℕ → Draw) → Parts V → ℕ → ℕ → Type 0
+WorksOn faults ds f a before = (at_work : IsAtWork faults ds f a) × (at_work.done ≡ one_more before f.stop)

@@ -1,25 +1,27 @@
 -- What a floor and its workers keep of the records of the input.
-use Rattle.std.specs.Prelude.{◌≡◌, ◌≢◌, ℕ, ◌<◌, ◌≤◌, ◌==◌, List, length, map, take, count_by, flat_map, None}
+use Rattle.std.specs.Prelude.{◌≡◌, ◌≢◌, ℕ, ◌<◌, ◌≤◌, ◌==◌, List, [], ◌∷◌, ◌++◌, length, map, take, count_by, flat_map, None}
 use Rattle.esa_device.specs.Logs.{Carried, IsFaithful, Took}
 use Rattle.esa_device.specs.Recording.{Recorded}
 use Rattle.esa_envelope.specs.declared.keys.Keys.{Keys}
 use Rattle.esa_params.specs.Form.{envelope_length}
 use Rattle.esa_params.specs.Sizes.{Sizes, below, places_of, size}
-use Rattle.esa_params.specs.Slots.{at, number_of, plain_length}
+use Rattle.esa_params.specs.Slots.{at, item_length, number_of, plain_length}
 use Rattle.esa_params.specs.declared.slot.Region.TheVariants.{Input}
 use Rattle.esa_report.specs.declared.item.Item.{Item}
 use Rattle.esa_spec.specs.Draws.{Draw}
 use Rattle.esa_spec.specs.Lines.{chunk, queued}
 use Rattle.esa_spec.specs.Places.{exchange_of}
-use Rattle.esa_spec.specs.Turns.{order}
+use Rattle.esa_spec.specs.Traces.{chunk_slot}
+use Rattle.esa_spec.specs.Turns.{events, is_write_at, order}
 use Rattle.esa_spec.specs.declared.event.Event.{Event}
 use Rattle.esa_spec.specs.declared.event.Event.TheVariants.{Claim, Read, Exchange, Write, Done, Idle}
 use Rattle.esa_stash.specs.Stash.{chunks, exchanged, padded, queue_at}
+use Rattle.esa_vault.specs.Filled.{text_of}
 use Rattle.esa_vault.specs.Seals.{sealed_block}
 use Rattle.esa_floor.specs.Exchanges.{AreOf}
 use Rattle.esa_floor.specs.Parts.{Parts}
 use Rattle.esa_floor.specs.Private.{item_opened}
-use Rattle.esa_floor.specs.Standing.{attempt_begun, turns_made}
+use Rattle.esa_floor.specs.Standing.{StopsAt, attempt_begun, turns_made}
 use Rattle.esa_floor.specs.Working.{AreDrawn, AreOpened, Working, attempt_in, handed_by}
 
 -- the envelopes of a text open to the records of the places of bucket j
@@ -93,6 +95,46 @@ abbrev pub Leaves : {V C : Type 0} → Event → Parts V → Working C → Worki
 Leaves (Claim j) f old new = new.phase ≡ 1
 Leaves (Read j) f old new = new.phase ≡ 2
 Leaves (Exchange j) f old new = (new.bucket ≡ j) × (new.buffers.chunks ≡ chunks f.stash (handed_by old.buffers j))
-Leaves (Write j i) f old new = (3 ≤ old.phase) × (new.bucket ≡ old.bucket) × (new.buffers.chunks ≡ old.buffers.chunks)
+Leaves (Write j i) f old new = (3 ≤ old.phase) × (old.bucket ≡ j) × (new.bucket ≡ j) × (new.buffers.chunks ≡ old.buffers.chunks)
 Leaves Done f old new = new.phase ≡ 1
 Leaves Idle f old new = f.plan.b ≤ new.bucket
+
+-- the block of the chunk of bucket j for the target i in attempt a, with this order of exchanges: the seal of the records
+-- of its places, with dummies behind them
+abbrev pub chunk_block : Sizes → Keys → ℕ → Draw → (ℕ → Item) → List ℕ → ℕ → ℕ → List ℕ
+chunk_block p run a d record_of o j i =
+    sealed_block p run (chunk_slot p j i) a (text_of (item_length p.form) (padded p.c (map record_of (chunk p d o (exchange_of o j) i))))
+
+-- the bucket j was exchanged, and the latest write of the slot of its chunk for the target i took its block
+pub record IsChunkStored (p : Sizes) (run : Keys) (a : ℕ) (d : Draw) (record_of : ℕ → Item) (o : List ℕ) (log : List Carried) (j i : ℕ) : Type 0 where
+  pub exchanged : 1 ≤ count_by (λ k. k == j) o
+  pub took : Took p (number_of p (chunk_slot p j i)) (chunk_block p run a d record_of o j i) log
+
+-- so it is with each chunk that the turns h of attempt a have written
+abbrev pub AreChunksStored : Sizes → Keys → ℕ → Draw → (ℕ → Item) → List ℕ → List Carried → Type 0
+AreChunksStored p run a d record_of h log =
+    (j i : ℕ) → j < p.b → i < p.b → 1 ≤ count_by (is_write_at j i) (events p.b h) → IsChunkStored p run a d record_of (order p.b h) log j i
+
+-- while no turn of the attempt has failed, each chunk that was written is stored in its slot
+abbrev pub SlotsHold : {V : Type 0} → (ℕ → Draw) → Parts V → Type 0
+SlotsHold ds f =
+    (record_of : ℕ → Item) → HasInput f record_of → f.attempt ≢ None → f.stop ≡ None
+    → AreChunksStored f.plan f.run (attempt_begun f) (ds (attempt_begun f)) record_of (turns_made f) f.recorder.log
+
+-- each queue has the records of the places that wait for its target after the turns h of the attempt
+abbrev pub QueuesHoldAfter : {V : Type 0} → (ℕ → Draw) → List ℕ → Parts V → Type 0
+QueuesHoldAfter ds h f =
+    (record_of : ℕ → Item) → HasInput f record_of → (i : ℕ) → i < f.plan.b
+    → queue_at f.stash i ≡ map record_of (queued f.plan (ds (attempt_begun f)) (order f.plan.b h) (length (order f.plan.b h)) i)
+
+-- each chunk that the turns h of the attempt have written is stored in its slot
+abbrev pub SlotsHoldAfter : {V : Type 0} → (ℕ → Draw) → List ℕ → Parts V → Type 0
+SlotsHoldAfter ds h f =
+    (record_of : ℕ → Item) → HasInput f record_of
+    → AreChunksStored f.plan f.run (attempt_begun f) (ds (attempt_begun f)) record_of h f.recorder.log
+
+-- the turns h of the attempt did not fail. One more was made, at which they stopped, and none behind it
+pub record StopsAfter {V : Type 0} (faults : V → ℕ) (ds : ℕ → Draw) (h : List ℕ) (f : Parts V) : Type 0 where
+  pub failed : ℕ
+  pub turns : turns_made f ≡ h ++ failed ∷ []
+  pub stops : StopsAt faults (ds (attempt_begun f)) (attempt_begun f) f (length h) f.stop

@@ -7,14 +7,14 @@ ghost use Rattle.esa_spec.specs.Draws.{drawn};
 ghost use Rattle.esa_spec.specs.Traces.{asked, chunk_slot};
 ghost use Rattle.esa_spec.specs.Turns.{held, next, next_phase};
 ghost use Rattle.esa_stash.specs.Stash.{chunks as chunks_of, empty_stash, padded, queue_at, without};
-ghost use Rattle.esa_floor.specs.Acts.{answer_in, answer_of, counted_after};
-ghost use Rattle.esa_floor.specs.Keeping.{Deals, HoldsChunks, HoldsRecords, IsDealt, Leaves, OpensTo, QueuesHold};
+ghost use Rattle.esa_floor.specs.Acts.{WorksOn, answer_in, answer_of, counted_after};
+ghost use Rattle.esa_floor.specs.Keeping.{Deals, HoldsChunks, HoldsRecords, IsDealt, Leaves, OpensTo, QueuesHold, QueuesHoldAfter, SlotsHold, SlotsHoldAfter, StopsAfter};
 ghost use Rattle.esa_floor.specs.Logging.{noted_of, read_of, write_of};
 ghost use Rattle.esa_floor.specs.Marks.{mark_of, roots_of};
 ghost use Rattle.esa_floor.specs.Workers.{IsInRound, IsOfFloor, WorkerStands, moved};
 ghost use Rattle.esa_floor.specs.Working.{IsReady, Working, handed_by, passed};
 ghost use Rattle.esa_floor.specs.Parts.{begun_as, count_at, ended_as, no_counts, nothing_counted, with_entry};
-ghost use Rattle.esa_floor.specs.Standing.{IsAtWork, Stands, attempt_begun, turns_made};
+ghost use Rattle.esa_floor.specs.Standing.{IsAtWork, Stands, StopsAt, attempt_begun, turns_made};
 
 use crate::acts;
 use crate::exchanger::Exchanger;
@@ -189,6 +189,8 @@ impl<V: Device, G: Told> Floor<V, G> {
         requires stands { Stands V.faults G.plan G.draws (begun_as self.old attempt) }
         ensures begun { self.new ≡ begun_as self.old attempt }
         ensures stands { Stands V.faults G.plan G.draws self.new }
+        ensures origin { roots_of self.new ≡ roots_of self.old }
+        ensures mark { mark_of self.old ≤ mark_of self.new }
     {
         let owner = self.exchanger.plan().workers();
         self.history.push_reserved(owner);
@@ -205,6 +207,8 @@ impl<V: Device, G: Told> Floor<V, G> {
         requires stands { Stands V.faults G.plan G.draws (ended_as self.old outcome) }
         ensures ended { self.new ≡ ended_as self.old outcome }
         ensures stands { Stands V.faults G.plan G.draws self.new }
+        ensures origin { roots_of self.new ≡ roots_of self.old }
+        ensures mark { mark_of self.old ≤ mark_of self.new }
     {
         let owner = self.exchanger.plan().workers();
         self.history.push_reserved(owner);
@@ -275,6 +279,8 @@ impl<V: Device, G: Told> Floor<V, G> {
         ensures left { IfErr result (λ left. left.held ≡ length (queue_at self.old.stash target)) }
         ensures unchanged { OnErr result (self.new ≡ self.old) }
         ensures out_unchanged { OnErr result (out.new ≡ out.old) }
+        ensures origin { roots_of self.new ≡ roots_of self.old }
+        ensures mark { mark_of self.new ≡ mark_of self.old }
     {
         self.exchanger.spill(target, out)
     }
@@ -328,7 +334,7 @@ impl<V: Device, G: Told> Floor<V, G> {
         requires runs { self.old.stop ≡ None }
         requires number { worker.old.number ≢ self.old.plan.workers }
         requires phase { next_phase self.old.plan.b (turns_made self.old) worker.old.number ≡ 0 }
-        ensures stands { IsAtWork V.faults G.draws (with_entry self.new worker.old.number) (attempt_begun self.old) }
+        ensures stands { WorksOn V.faults G.draws (with_entry self.new worker.old.number) (attempt_begun self.old) (length (turns_made self.old)) }
         ensures answer { result ≡ answer_of (next self.old.plan.b (turns_made self.old) worker.old.number) None }
         ensures floor { self.new ≡ record self.old { counted = record self.old.counted { claims = min (self.old.counted.claims + 1) self.old.plan.b } } }
         ensures worker { worker.new ≡ record worker.old { phase = 1; bucket = self.old.counted.claims; stage = Stage.Empty } }
@@ -350,7 +356,7 @@ impl<V: Device, G: Told> Floor<V, G> {
         requires phase { next_phase self.now.plan.b (turns_made self.now) worker.old.number ≢ 0 }
         requires held { self.now.plan.b ≤ held self.now.plan.b (turns_made self.now) worker.old.number }
         requires most { worker.old.phase < worker.old.buffers.plan.b + 3 }
-        ensures stands { IsAtWork V.faults G.draws (with_entry self.now worker.old.number) (attempt_begun self.now) }
+        ensures stands { WorksOn V.faults G.draws (with_entry self.now worker.old.number) (attempt_begun self.now) (length (turns_made self.now)) }
         ensures answer { result ≡ answer_of (next self.now.plan.b (turns_made self.now) worker.old.number) None }
         ensures worker { worker.new ≡ passed worker.old }
     {
@@ -371,7 +377,7 @@ impl<V: Device, G: Told> Floor<V, G> {
         requires attempt { worker.old.attempt ≡ Some (attempt_begun self.old) }
         requires ready { self.old.recorder.plan ≡ Some self.old.plan }
         requires room { 0 < self.old.recorder.room }
-        ensures stands { IsAtWork V.faults G.draws (with_entry self.new worker.old.number) (attempt_begun self.old) }
+        ensures stands { WorksOn V.faults G.draws (with_entry self.new worker.old.number) (attempt_begun self.old) (length (turns_made self.old)) }
         ensures answer { result ≡ answer_of (next self.old.plan.b (turns_made self.old) worker.old.number) self.new.stop }
         ensures floor { self.new ≡ record self.old { recorder = self.new.recorder; stop = self.new.stop } }
         ensures room { self.old.recorder.room ≡ self.new.recorder.room + 1 }
@@ -400,10 +406,11 @@ impl<V: Device, G: Told> Floor<V, G> {
         requires items { worker.old.stage ≡ Stage.Items }
         requires draws { C.target_list worker.old.coins (attempt_begun self.old) worker.old.bucket ≡ (G.draws (attempt_begun self.old)).targets worker.old.bucket }
         requires drawn { length ((G.draws (attempt_begun self.old)).targets worker.old.bucket) ≡ size self.old.plan worker.old.bucket }
-        ensures stands { IsAtWork V.faults G.draws (with_entry self.new worker.old.number) (attempt_begun self.old) }
+        ensures stands { WorksOn V.faults G.draws (with_entry self.new worker.old.number) (attempt_begun self.old) (length (turns_made self.old)) }
         ensures answer { result ≡ answer_of (next self.old.plan.b (turns_made self.old) worker.old.number) self.new.stop }
         ensures floor { self.new ≡ record self.old { stash = self.new.stash; counts = self.new.counts; stop = self.new.stop } }
         ensures chunks { self.new.stop ≡ None → worker.new.buffers.chunks ≡ chunks_of self.old.stash (handed_by worker.old.buffers worker.old.bucket) }
+        ensures failed { self.new.stop ≢ None → self.new.stash ≡ self.old.stash }
         ensures dealt { self.new.stop ≡ None → IsDealt (C.target_list worker.old.coins) worker.old.bucket self.old self.new worker.old }
         ensures worker { self.new.stop ≡ None → worker.new ≡ record worker.old { phase = 3; stage = Stage.Chunks; buffers = record worker.old.buffers { chunks = worker.new.buffers.chunks } } }
         ensures kept { worker.new ≡ moved worker.old worker.new }
@@ -428,7 +435,7 @@ impl<V: Device, G: Told> Floor<V, G> {
         requires blocks { worker.old.stage ≡ Stage.Blocks }
         requires ready { self.old.recorder.plan ≡ Some self.old.plan }
         requires room { 0 < self.old.recorder.room }
-        ensures stands { IsAtWork V.faults G.draws (with_entry self.new worker.old.number) (attempt_begun self.old) }
+        ensures stands { WorksOn V.faults G.draws (with_entry self.new worker.old.number) (attempt_begun self.old) (length (turns_made self.old)) }
         ensures answer { result ≡ answer_of (next self.old.plan.b (turns_made self.old) worker.old.number) self.new.stop }
         ensures floor { self.new ≡ record self.old { recorder = self.new.recorder; counted = counted_after self.old.counted self.new.stop; stop = self.new.stop } }
         ensures room { self.old.recorder.room ≡ self.new.recorder.room + 1 }
@@ -466,7 +473,7 @@ impl<V: Device, G: Told> Floor<V, G> {
         requires held { held self.old.plan.b (turns_made self.old) worker.old.number ≡ worker.old.bucket }
         requires bucket { worker.old.bucket < self.old.plan.b }
         requires round { IsInRound self.old.plan.b (turns_made self.old) worker.old }
-        ensures stands { IsAtWork V.faults G.draws (with_entry self.new worker.old.number) (attempt_begun self.old) }
+        ensures stands { WorksOn V.faults G.draws (with_entry self.new worker.old.number) (attempt_begun self.old) (length (turns_made self.old)) }
         ensures answer { result ≡ answer_of (next self.old.plan.b (turns_made self.old) worker.old.number) self.new.stop }
         ensures kept { self.new ≡ record self.old { recorder = self.new.recorder; stash = self.new.stash; counts = self.new.counts; counted = self.new.counted; stop = self.new.stop } }
         ensures ready { self.new.recorder.plan ≡ self.old.recorder.plan }
@@ -475,6 +482,7 @@ impl<V: Device, G: Told> Floor<V, G> {
         ensures access { self.new.recorder.trace ≡ self.old.recorder.trace ++ option_to_list (asked self.old.plan (attempt_begun self.old) (next self.old.plan.b (turns_made self.old) worker.old.number)) }
         ensures holds { HoldsRecords self.new worker.new }
         ensures leaves { self.new.stop ≡ None → Leaves (next self.old.plan.b (turns_made self.old) worker.old.number) self.old worker.old worker.new }
+        ensures failed { self.new.stop ≢ None → self.new.stash ≡ self.old.stash }
         ensures deals { self.new.stop ≡ None → Deals (C.target_list worker.old.coins) (next self.old.plan.b (turns_made self.old) worker.old.number) self.old self.new worker.old }
         ensures log { self.new.recorder.log ≡ self.old.recorder.log ++ noted_of self.old.plan worker.old.run (attempt_begun self.old) (next self.old.plan.b (turns_made self.old) worker.old.number) self.new.stop self.new.recorder.last worker.old.buffers.chunks }
         ensures round { self.new.stop ≡ None → IsInRound self.old.plan.b (turns_made self.old ++ worker.old.number ∷ []) worker.new }
@@ -508,7 +516,7 @@ impl<V: Device, G: Told> Floor<V, G> {
         requires room { worker.old.bucket < self.old.plan.b → 0 < self.old.recorder.room }
         requires held { worker.old.phase ≢ 0 → worker.old.bucket ≡ min (held self.old.plan.b (turns_made self.old) worker.old.number) self.old.plan.b }
         requires round { IsInRound self.old.plan.b (turns_made self.old) worker.old }
-        ensures stands { IsAtWork V.faults G.draws (with_entry self.new worker.old.number) (attempt_begun self.old) }
+        ensures stands { WorksOn V.faults G.draws (with_entry self.new worker.old.number) (attempt_begun self.old) (length (turns_made self.old)) }
         ensures answer { result ≡ answer_of (next self.old.plan.b (turns_made self.old) worker.old.number) self.new.stop }
         ensures kept { self.new ≡ record self.old { recorder = self.new.recorder; stash = self.new.stash; counts = self.new.counts; counted = self.new.counted; stop = self.new.stop } }
         ensures ready { self.new.recorder.plan ≡ self.old.recorder.plan }
@@ -517,6 +525,7 @@ impl<V: Device, G: Told> Floor<V, G> {
         ensures access { self.new.recorder.trace ≡ self.old.recorder.trace ++ option_to_list (asked self.old.plan (attempt_begun self.old) (next self.old.plan.b (turns_made self.old) worker.old.number)) }
         ensures holds { HoldsRecords self.new worker.new }
         ensures leaves { self.new.stop ≡ None → Leaves (next self.old.plan.b (turns_made self.old) worker.old.number) self.old worker.old worker.new }
+        ensures failed { self.new.stop ≢ None → self.new.stash ≡ self.old.stash }
         ensures deals { self.new.stop ≡ None → Deals (C.target_list worker.old.coins) (next self.old.plan.b (turns_made self.old) worker.old.number) self.old self.new worker.old }
         ensures log { self.new.recorder.log ≡ self.old.recorder.log ++ noted_of self.old.plan worker.old.run (attempt_begun self.old) (next self.old.plan.b (turns_made self.old) worker.old.number) self.new.stop self.new.recorder.last worker.old.buffers.chunks }
         ensures round { self.new.stop ≡ None → IsInRound self.old.plan.b (turns_made self.old ++ worker.old.number ∷ []) worker.new }
@@ -547,6 +556,8 @@ impl<V: Device, G: Told> Floor<V, G> {
         ensures leaves { self.old.attempt ≢ None → self.old.stop ≡ None → self.new.stop ≡ None → Leaves (next self.old.plan.b (turns_made self.old) worker.old.number) self.old worker.old worker.new }
         ensures deals { self.old.attempt ≢ None → self.old.stop ≡ None → self.new.stop ≡ None → Deals (C.target_list worker.old.coins) (next self.old.plan.b (turns_made self.old) worker.old.number) self.old self.new worker.old }
         ensures log { self.old.attempt ≢ None → self.old.stop ≡ None → self.new.recorder.log ≡ self.old.recorder.log ++ noted_of self.old.plan worker.old.run (attempt_begun self.old) (next self.old.plan.b (turns_made self.old) worker.old.number) self.new.stop self.new.recorder.last worker.old.buffers.chunks }
+        ensures failed { self.new.stop ≢ None → self.new.stash ≡ self.old.stash }
+        ensures stops { self.old.attempt ≢ None → self.old.stop ≡ None → self.new.stop ≢ None → StopsAt V.faults (G.draws (attempt_begun self.old)) (attempt_begun self.old) (with_entry self.new worker.old.number) (length (turns_made self.old)) self.new.stop }
         ensures later { self.old.stop ≢ None → self.new ≡ self.old }
         ensures idle { self.old.attempt ≡ None → self.new ≡ self.old }
         ensures worker { self.old.attempt ≢ None → WorkerStands (with_entry self.new worker.old.number) worker.new }
@@ -600,6 +611,14 @@ impl<V: Device, G: Told> Floor<V, G> {
         ensures chunks { HoldsRecords self.old worker.old → QueuesHold G.draws self.old → HoldsChunks G.draws self.old worker.old
             → HoldsChunks G.draws self.new worker.new }
         ensures others_chunks { (other : Working C) → HoldsChunks G.draws self.old other → HoldsChunks G.draws self.new other }
+        ensures slots { HoldsChunks G.draws self.old worker.old → SlotsHold G.draws self.old → SlotsHold G.draws self.new }
+
+        // Where this turn fails, the turns stop at it, and the queues and the slots hold what those before it made.
+        ensures stops { self.old.attempt ≢ None → self.old.stop ≡ None → self.new.stop ≢ None → StopsAfter V.faults G.draws (turns_made self.old) self.new }
+        ensures queues_before { self.old.attempt ≢ None → self.old.stop ≡ None → self.new.stop ≢ None → QueuesHold G.draws self.old
+            → QueuesHoldAfter G.draws (turns_made self.old) self.new }
+        ensures slots_before { self.old.attempt ≢ None → self.old.stop ≡ None → self.new.stop ≢ None → SlotsHold G.draws self.old
+            → SlotsHoldAfter G.draws (turns_made self.old) self.new }
     {
         let turn = self.take(worker);
         self.history.push_reserved(worker.number());

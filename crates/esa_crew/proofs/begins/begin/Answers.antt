@@ -1,8 +1,9 @@
 -- One worker more has begun.
 use Rattle.std.proofs.Common.{◌<◌, length, length-set, sym, ◌∙◌, subst, arith}
-use Rattle.esa_floor.specs.Keeping.{QueuesHold}
+use Rattle.esa_floor.specs.Keeping.{QueuesHold, SlotsHold}
 use Rattle.esa_floor.specs.Parts.{Parts}
 use Rattle.esa_floor.proofs.Queueing.{queues_begun}
+use Rattle.esa_floor.proofs.Storing.{slots_begun}
 use Rattle.esa_crew.proofs.Beginning.{holds_more, members_more, none_made, posts_more}
 use Rattle.esa_crew.proofs.begins.begin.Goals as goal
 
@@ -37,3 +38,7 @@ returns-clause-hold g c = λ k w within.
 pub returns-clause-queues : goal.returns-clause-queues
 returns-clause-queues g c =
     subst (λ (x : Parts _). QueuesHold g.G.Told.draws x) (sym c.begin.ensures.begun) (queues_begun g.G.Told.draws c.args.floor.now c.args.attempt)
+
+pub returns-clause-slots : goal.returns-clause-slots
+returns-clause-slots g c =
+    subst (λ (x : Parts _). SlotsHold g.G.Told.draws x) (sym c.begin.ensures.begun) (slots_begun g.G.Told.draws c.args.floor.now c.args.attempt)

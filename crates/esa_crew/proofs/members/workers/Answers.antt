@@ -24,5 +24,5 @@ loop-number-preserved g c =
       each = ap length items ∙ length-append xs (c.in_ok-make.field-0 ∷ []) ∙ ap (λ (n : ℕ). n + 1) each;
       made = λ k w inside. subst (λ (ys : List (Working _)). IsNewWorker c.args.coins.now c.args.plan c.args.outer c.args.run k (get_or ys k w)) (sym items)
           (one_more (IsNewWorker c.args.coins.now c.args.plan c.args.outer c.args.run) xs c.loop-number.number c.in_ok-make.field-0 each inv.made
-          (record { number = made.number; coins_are = made.coins; plan = made.plan; outer_are = made.outer; run_are = made.run }) k w inside);
+          (record { number = made.number; coins_are = made.coins; plan = made.plan; outer_are = made.outer; run_are = made.run; attempt = made.attempt; ready = made.ready }) k w inside);
     }

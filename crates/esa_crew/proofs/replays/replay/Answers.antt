@@ -11,7 +11,7 @@ use Rattle.esa_spec.specs.Verdicts.{failing, is_finished}
 use Rattle.esa_floor.specs.Parts.{Parts}
 use Rattle.esa_floor.specs.Standing.{attempt_begun, turns_made}
 use Rattle.esa_floor.specs.declared.floor.Roots.{Roots}
-use Rattle.esa_crew.proofs.Ending.{finishes, good, not_finished}
+use Rattle.esa_crew.proofs.Ending.{finishes, good, not_finished, not_stopped}
 use Rattle.esa_crew.proofs.Replaying.{at_last, more, replayed, traced_more, unfinished_more}
 use Rattle.esa_crew.proofs.replays.replay.Goals as goal
 use Rattle.esa_crew.proofs.replays.replay.Goals.{At-loop-made}
@@ -105,6 +105,9 @@ loop-made-preserved g c =
       each = done.each ∙ inv.each;
       hold = λ all queues. done.hold (inv.hold all queues) (inv.queues all queues);
       queues = λ all queues. done.queues (inv.hold all queues) (inv.queues all queues);
+      slots = λ all queues slots. done.slots (inv.hold all queues) (inv.slots all queues slots);
+      stops = λ ran halted. (turns_made now, done.stops halted,
+          (λ all queues slots. (done.queues_before halted (inv.queues all queues), done.slots_before halted (inv.slots all queues slots))));
       origin = done.origin ∙ inv.origin;
       attempt = done.attempt ∙ inv.attempt;
       begun = done.begun ∙ inv.begun;
@@ -143,3 +146,19 @@ returns-clause-hold g c = c.loop-made.invariant.hold
 
 pub returns-clause-queues : goal.returns-clause-queues
 returns-clause-queues g c = c.loop-made.invariant.queues
+
+pub returns-then-is_over-clause-slots : goal.returns-then-is_over-clause-slots
+returns-then-is_over-clause-slots g c = c.loop-made.invariant.slots
+
+pub returns-clause-slots : goal.returns-clause-slots
+returns-clause-slots g c = c.loop-made.invariant.slots
+
+pub returns-then-is_over-clause-stops : goal.returns-then-is_over-clause-stops
+returns-then-is_over-clause-stops g c =
+    let f = c.args.floor.now in
+    c.loop-made.invariant.stops (not_stopped g.V.Device.faults g.G.Told.plan g.G.Told.draws f c.requires.stands c.requires.begun c.requires.fresh f.stop refl)
+
+pub returns-clause-stops : goal.returns-clause-stops
+returns-clause-stops g c =
+    let f = c.args.floor.now in
+    c.loop-made.invariant.stops (not_stopped g.V.Device.faults g.G.Told.plan g.G.Told.draws f c.requires.stands c.requires.begun c.requires.fresh f.stop refl)

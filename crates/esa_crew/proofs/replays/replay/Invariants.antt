@@ -1,9 +1,9 @@
 -- So many turns of the completed list were taken, and no fewer finish the attempt.
-use Rattle.std.proofs.Common.{◌≡◌, ℕ, ◌<◌, ◌++◌, false, length, take}
+use Rattle.std.proofs.Common.{◌≡◌, ◌≢◌, ℕ, ◌<◌, ◌++◌, false, List, length, take, None}
 use Rattle.esa_spec.specs.Completion.{completed}
 use Rattle.esa_spec.specs.Traces.{spread}
 use Rattle.esa_spec.specs.Verdicts.{is_finished}
-use Rattle.esa_floor.specs.Keeping.{QueuesHold}
+use Rattle.esa_floor.specs.Keeping.{QueuesHold, QueuesHoldAfter, SlotsHold, SlotsHoldAfter, StopsAfter}
 use Rattle.esa_floor.specs.Marks.{roots_of}
 use Rattle.esa_floor.specs.Standing.{Stands, attempt_begun, turns_made}
 use Rattle.esa_crew.specs.Posts.{AllHold, ArePosts}
@@ -20,6 +20,11 @@ invariant-loop-made g l =
       each : length l.workers ≡ length l.initial.workers;
       hold : AllHold g.G.Told.draws l.initial.floor l.initial.workers → QueuesHold g.G.Told.draws l.initial.floor → AllHold g.G.Told.draws l.floor l.workers;
       queues : AllHold g.G.Told.draws l.initial.floor l.initial.workers → QueuesHold g.G.Told.draws l.initial.floor → QueuesHold g.G.Told.draws l.floor;
+      slots : AllHold g.G.Told.draws l.initial.floor l.initial.workers → QueuesHold g.G.Told.draws l.initial.floor → SlotsHold g.G.Told.draws l.initial.floor
+          → SlotsHold g.G.Told.draws l.floor;
+      stops : l.initial.floor.stop ≡ None → l.floor.stop ≢ None → (before : List ℕ) × StopsAfter g.V.Device.faults g.G.Told.draws before l.floor
+          × (AllHold g.G.Told.draws l.initial.floor l.initial.workers → QueuesHold g.G.Told.draws l.initial.floor → SlotsHold g.G.Told.draws l.initial.floor
+          → QueuesHoldAfter g.G.Told.draws before l.floor × SlotsHoldAfter g.G.Told.draws before l.floor);
       origin : roots_of l.floor ≡ roots_of l.initial.floor;
       attempt : l.floor.attempt ≡ l.initial.floor.attempt;
       begun : attempt_begun l.floor ≡ a;

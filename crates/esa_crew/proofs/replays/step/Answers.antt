@@ -54,3 +54,15 @@ returns-clause-others_hold g c = λ other holds. record {
 
 pub returns-clause-queues : goal.returns-clause-queues
 returns-clause-queues g c = λ holds queues. c.turn.ensures.queues holds.records queues
+
+pub returns-clause-slots : goal.returns-clause-slots
+returns-clause-slots g c = λ holds slots. c.turn.ensures.slots holds.chunks slots
+
+pub returns-clause-stops : goal.returns-clause-stops
+returns-clause-stops g c = c.turn.ensures.stops c.requires.begun c.requires.runs
+
+pub returns-clause-queues_before : goal.returns-clause-queues_before
+returns-clause-queues_before g c = c.turn.ensures.queues_before c.requires.begun c.requires.runs
+
+pub returns-clause-slots_before : goal.returns-clause-slots_before
+returns-clause-slots_before g c = c.turn.ensures.slots_before c.requires.begun c.requires.runs

@@ -33,3 +33,7 @@ returns-clause-hold g c = λ all queues.
 pub returns-clause-queues : goal.returns-clause-queues
 returns-clause-queues g c = λ all queues.
     c.step.ensures.queues (all c.args.number c.index-workers-number.result c.requires.number) queues
+
+pub returns-clause-slots : goal.returns-clause-slots
+returns-clause-slots g c = λ all slots.
+    c.step.ensures.slots (all c.args.number c.index-workers-number.result c.requires.number) slots

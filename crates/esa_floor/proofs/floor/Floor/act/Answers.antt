@@ -147,3 +147,6 @@ returns-then-bucket-b-clause-leaves g c = λ runs.
     let same = ap (λ (x : Working _). x.bucket) c.pass.ensures.worker in
     let idle = next_is_idle f.plan.b (turns_made f) w.number (λ first. more (sym c.requires.phase ∙ first)) (omega (arith, held_is, bucket_is, b_is, none)) in
     subst (λ (e : Event). Leaves e f w c.pass.new.worker) (sym idle) (omega (arith, same, none, bucket_is, b_is))
+
+pub returns-then-phase-eq0-clause-failed : goal.returns-then-phase-eq0-clause-failed
+returns-then-phase-eq0-clause-failed g c = λ failed. ap (λ (x : Parts _). x.stash) c.claim.ensures.floor

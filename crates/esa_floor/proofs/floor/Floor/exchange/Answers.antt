@@ -9,7 +9,7 @@ use Rattle.esa_floor.specs.Parts.{Parts}
 use Rattle.esa_floor.specs.Standing.{attempt_begun, turns_made}
 use Rattle.esa_floor.specs.Working.{handed_by}
 use Rattle.esa_floor.proofs.Acting.{next_exchanges}
-use Rattle.esa_floor.proofs.Making.{answered_is, exchange_here, exchange_keeps}
+use Rattle.esa_floor.proofs.Making.{answered_is, exchange_here, exchange_keeps, exchange_stays}
 use Rattle.esa_floor.proofs.floor.Floor.exchange.Goals as goal
 
 pub returns-clause-stands : goal.returns-clause-stands
@@ -36,3 +36,10 @@ returns-clause-answer g c =
     ∙ answered_is _ _ c.exchange-self-inside.result
     (ap (λ (e : Event). answer_of e None) (next_exchanges f.plan.b (turns_made f) w.number w.bucket c.requires.held c.requires.bucket c.requires.phase)
     ∙ ap (λ (j : ℕ). answer_of (Exchange j) None) (sym c.bucket-bucket.ensures))
+
+pub returns-clause-failed : goal.returns-clause-failed
+returns-clause-failed g c = λ failed.
+    let w = c.args.worker.now in
+    exchange_stays c.self.inside.exchanger c.exchange-self-inside.new.exchanger w.bucket (handed_by w.buffers w.bucket) c.exchange-self-inside.result
+    c.exchange-self-inside.ensures.stops failed
+    ∙ ap (λ (x : Parts _). x.stash) c.self.view_is

@@ -1,5 +1,5 @@
 -- The worker is in its round after the act.
-use Rattle.std.proofs.Common.{ℕ, ◌+◌, ◌-◌, ◌<◌, ◌≤◌, ◌++◌, ◌∷◌, [], sym, ap, ◌∙◌, subst, arith, append-nil}
+use Rattle.std.proofs.Common.{ℕ, ◌+◌, ◌-◌, ◌<◌, ◌≤◌, ◌++◌, ◌∷◌, [], sym, ap, ◌∙◌, subst, arith, append-nil, refl}
 use Rattle.std.specs.Option.{option_to_list}
 use Rattle.esa_params.specs.Sizes.{Sizes}
 use Rattle.esa_spec.specs.Traces.{asked}
@@ -190,4 +190,10 @@ returns-clause-leaves g c = λ runs.
     let least : 3 ≤ w.phase = omega (arith, is, first, second, later) in
     subst (λ (e : Event). Leaves e f w c.write.new.worker)
     (sym (next_writes f.plan.b (turns_made f) w.number w.bucket c.requires.held c.requires.bucket (omega (arith, phase, is, first, second, later))))
-    (least, ap (λ (x : Working _). x.bucket) (c.write.ensures.worker runs), ap (λ (x : Working _). x.buffers.chunks) (c.write.ensures.worker runs))
+    (least, refl, ap (λ (x : Working _). x.bucket) (c.write.ensures.worker runs), ap (λ (x : Working _). x.buffers.chunks) (c.write.ensures.worker runs))
+
+pub returns-then-phase-eq1-clause-failed : goal.returns-then-phase-eq1-clause-failed
+returns-then-phase-eq1-clause-failed g c = λ failed. ap (λ (x : Parts _). x.stash) c.read.ensures.floor
+
+pub returns-clause-failed : goal.returns-clause-failed
+returns-clause-failed g c = λ failed. ap (λ (x : Parts _). x.stash) c.write.ensures.floor

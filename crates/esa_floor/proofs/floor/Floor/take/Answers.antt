@@ -1,10 +1,10 @@
 -- The floor stands once the number is added: one in no attempt, one that has a stop, and one at work.
-use Rattle.std.proofs.Common.{◌≡◌, ◌≢◌, Option, Some, None, refl, sym, ap, ◌∙◌, subst, arith, rules}
+use Rattle.std.proofs.Common.{◌≡◌, ◌≢◌, length, Option, Some, None, refl, sym, ap, ◌∙◌, subst, arith, rules}
 use Rattle.esa_floor.specs.Parts.{Parts, with_entry}
-use Rattle.esa_floor.specs.Standing.{IsAtWork, attempt_begun}
+use Rattle.esa_floor.specs.Standing.{IsAtWork, attempt_begun, turns_made}
 use Rattle.esa_floor.specs.Working.{Working}
 use Rattle.esa_floor.specs.declared.turn.Stop.{Stop}
-use Rattle.esa_floor.proofs.Resting.{none_or_some, of_on, rests_on, room_left, round_on, working, works_on}
+use Rattle.esa_floor.proofs.Resting.{none_or_some, of_on, rests_on, room_left, round_on, stops_behind, working, works_on}
 use Rattle.esa_floor.proofs.Turning.{stands_later, turned}
 use Rattle.esa_floor.proofs.floor.Floor.take.Goals as goal
 
@@ -64,7 +64,7 @@ returns-in-None-clause-stands g c =
           c.act.ensures.ready c.act.ensures.room;
       drawn = c.requires.stands.drawn;
       state = works_on g.V.Device.faults g.G.Told.draws f (with_entry new n) new.outcome new.attempt
-          (ap (λ (x : Parts _). x.outcome) c.act.ensures.kept ∙ is.0) (ap (λ (x : Parts _). x.attempt) c.act.ensures.kept ∙ is.2) c.act.ensures.stands;
+          (ap (λ (x : Parts _). x.outcome) c.act.ensures.kept ∙ is.0) (ap (λ (x : Parts _). x.attempt) c.act.ensures.kept ∙ is.2) c.act.ensures.stands.0;
     }
 
 pub returns-in-None-clause-worker : goal.returns-in-None-clause-worker
@@ -98,3 +98,22 @@ returns-in-None-clause-deals g c = λ some before runs. c.act.ensures.deals runs
 
 pub returns-in-None-clause-leaves : goal.returns-in-None-clause-leaves
 returns-in-None-clause-leaves g c = λ some before runs. c.act.ensures.leaves runs
+
+pub returns-in-None-clause-stops : goal.returns-in-None-clause-stops
+returns-in-None-clause-stops g c = λ some runs stopped.
+    let f = c.args.self.now in
+    let n = c.args.worker.now.number in
+    stops_behind g.V.Device.faults g.G.Told.draws (with_entry c.act.new.self n) (attempt_begun f) (length (turns_made f)) c.act.new.self.stop refl stopped c.act.ensures.stands
+
+pub returns-then-is_none-clause-stops : goal.returns-then-is_none-clause-stops
+returns-then-is_none-clause-stops g c = λ some runs stopped.
+    let none : c.args.self.now.attempt ≡ None = search rules in
+    absurd (some none)
+
+pub returns-in-Some-clause-stops : goal.returns-in-Some-clause-stops
+returns-in-Some-clause-stops g c = λ some runs stopped.
+    let is : c.args.self.now.stop ≡ Some c.in-Some.stop = sym (ap (λ (x : Parts _). x.stop) c.self.view_is) ∙ c.in-Some.is in
+    absurd (none_or_some c.in-Some.stop (sym is ∙ runs))
+
+pub returns-in-None-clause-failed : goal.returns-in-None-clause-failed
+returns-in-None-clause-failed g c = c.act.ensures.failed

@@ -1,13 +1,15 @@
 -- The mark does not fall, and other workers stand as before.
-use Rattle.std.proofs.Common.{◌≡◌, ◌≢◌, ℕ, ◌∷◌, ◌++◌, List, [], sym, ap, ◌∙◌, subst, arith}
+use Rattle.std.proofs.Common.{◌≡◌, ◌≢◌, ℕ, ◌∷◌, ◌++◌, List, [], None, sym, ap, ◌∙◌, subst, arith}
 use Rattle.esa_spec.specs.Turns.{next}
-use Rattle.esa_floor.specs.Keeping.{HoldsChunks, HoldsRecords, QueuesHold}
+use Rattle.esa_floor.specs.Keeping.{HoldsChunks, HoldsRecords, QueuesHold, QueuesHoldAfter, SlotsHold, SlotsHoldAfter, StopsAfter}
 use Rattle.esa_floor.specs.Parts.{Parts}
 use Rattle.esa_floor.specs.Standing.{attempt_begun, turns_made}
 use Rattle.esa_floor.specs.Working.{Working}
 use Rattle.esa_floor.proofs.Chunking.{chunks_on, others_on as others_hold_on}
 use Rattle.esa_floor.proofs.Queueing.{held_on, queues_on}
 use Rattle.esa_floor.proofs.Resting.{begun_on, mark_grows, others_on}
+use Rattle.esa_floor.proofs.Stopping.{queues_after, slots_after, stops_on}
+use Rattle.esa_floor.proofs.Storing.{slots_on}
 use Rattle.esa_floor.proofs.floor.Floor.turn.Goals as goal
 
 pub returns-clause-mark : goal.returns-clause-mark
@@ -140,3 +142,79 @@ returns-clause-others_chunks g c = λ other before.
     ∙ ap (λ (x : Parts _). record x { history = c.push_reserved.new.self.items; room = room }) (sym c.self.view_is))
     (λ record_of. others_hold_on f new w.run (attempt_begun f) (next f.plan.b (turns_made f) w.number) w.buffers.chunks
     turn.kept c.requires.of.run turn.idle turn.later turn.log record_of g.V.Device.faults g.G.Told.draws w.number room worker other before)
+
+pub returns-clause-slots : goal.returns-clause-slots
+returns-clause-slots g c = λ holds before.
+    let f = c.args.self.now in
+    let w = c.args.worker.now in
+    let v = c.take-turn.new.worker in
+    let few = c.requires.of.number in
+    let worker : w.number ≢ f.plan.workers = λ same. absurd (omega (arith, same, few)) in
+    let turn = c.take-turn.ensures in
+    let new = c.take-turn.new.self in
+    let room = c.push_reserved.new.self.cap in
+    let longer : c.push_reserved.new.self.items ≡ f.history ++ w.number ∷ [] =
+    c.push_reserved.ensures.items ∙ ap (λ (xs : List ℕ). xs ++ c.number.result ∷ []) (ap (λ (x : Parts _). x.history) (c.self.view_is ∙ turn.kept))
+    ∙ ap (λ (k : ℕ). f.history ++ k ∷ []) (c.number.ensures ∙ ap (λ (x : Working _). x.number) turn.moved) in
+    let is = ap (λ (xs : List ℕ). record new { history = xs; room = room }) (sym longer)
+    ∙ ap (λ (x : Parts _). record x { history = c.push_reserved.new.self.items; room = room }) (sym c.self.view_is) in
+    subst (λ (x : Parts _). SlotsHold g.G.Told.draws x) is
+    (λ record_of. slots_on f new w.number room w v g.V.Device.faults g.G.Told.draws worker turn.kept c.requires.of.run turn.idle turn.later turn.log
+    turn.leaves holds before record_of)
+
+pub returns-clause-stops : goal.returns-clause-stops
+returns-clause-stops g c = λ some runs stopped.
+    let f = c.args.self.now in
+    let w = c.args.worker.now in
+    let v = c.take-turn.new.worker in
+    let few = c.requires.of.number in
+    let worker : w.number ≢ f.plan.workers = λ same. absurd (omega (arith, same, few)) in
+    let turn = c.take-turn.ensures in
+    let new = c.take-turn.new.self in
+    let room = c.push_reserved.new.self.cap in
+    let longer : c.push_reserved.new.self.items ≡ f.history ++ w.number ∷ [] =
+    c.push_reserved.ensures.items ∙ ap (λ (xs : List ℕ). xs ++ c.number.result ∷ []) (ap (λ (x : Parts _). x.history) (c.self.view_is ∙ turn.kept))
+    ∙ ap (λ (k : ℕ). f.history ++ k ∷ []) (c.number.ensures ∙ ap (λ (x : Working _). x.number) turn.moved) in
+    let is = ap (λ (xs : List ℕ). record new { history = xs; room = room }) (sym longer)
+    ∙ ap (λ (x : Parts _). record x { history = c.push_reserved.new.self.items; room = room }) (sym c.self.view_is) in
+    subst (λ (x : Parts _). StopsAfter g.V.Device.faults g.G.Told.draws (turns_made f) x) is
+    (stops_on f new w.number room g.V.Device.faults g.G.Told.draws worker turn.kept (turn.stops some runs (λ none. stopped (ap (λ (x : Parts _). x.stop) c.self.view_is ∙ none))))
+
+pub returns-clause-queues_before : goal.returns-clause-queues_before
+returns-clause-queues_before g c = λ some runs stopped queues.
+    let f = c.args.self.now in
+    let w = c.args.worker.now in
+    let v = c.take-turn.new.worker in
+    let few = c.requires.of.number in
+    let worker : w.number ≢ f.plan.workers = λ same. absurd (omega (arith, same, few)) in
+    let turn = c.take-turn.ensures in
+    let new = c.take-turn.new.self in
+    let room = c.push_reserved.new.self.cap in
+    let longer : c.push_reserved.new.self.items ≡ f.history ++ w.number ∷ [] =
+    c.push_reserved.ensures.items ∙ ap (λ (xs : List ℕ). xs ++ c.number.result ∷ []) (ap (λ (x : Parts _). x.history) (c.self.view_is ∙ turn.kept))
+    ∙ ap (λ (k : ℕ). f.history ++ k ∷ []) (c.number.ensures ∙ ap (λ (x : Working _). x.number) turn.moved) in
+    let is = ap (λ (xs : List ℕ). record new { history = xs; room = room }) (sym longer)
+    ∙ ap (λ (x : Parts _). record x { history = c.push_reserved.new.self.items; room = room }) (sym c.self.view_is) in
+    let halted : new.stop ≢ None = λ none. stopped (ap (λ (x : Parts _). x.stop) c.self.view_is ∙ none) in
+    subst (λ (x : Parts _). QueuesHoldAfter g.G.Told.draws (turns_made f) x) is
+    (λ record_of. queues_after f new w.number room w g.V.Device.faults g.G.Told.draws worker turn.kept c.requires.of.run turn.idle turn.later turn.log
+    (turn.failed halted) some runs queues record_of)
+
+pub returns-clause-slots_before : goal.returns-clause-slots_before
+returns-clause-slots_before g c = λ some runs stopped slots.
+    let f = c.args.self.now in
+    let w = c.args.worker.now in
+    let v = c.take-turn.new.worker in
+    let few = c.requires.of.number in
+    let worker : w.number ≢ f.plan.workers = λ same. absurd (omega (arith, same, few)) in
+    let turn = c.take-turn.ensures in
+    let new = c.take-turn.new.self in
+    let room = c.push_reserved.new.self.cap in
+    let longer : c.push_reserved.new.self.items ≡ f.history ++ w.number ∷ [] =
+    c.push_reserved.ensures.items ∙ ap (λ (xs : List ℕ). xs ++ c.number.result ∷ []) (ap (λ (x : Parts _). x.history) (c.self.view_is ∙ turn.kept))
+    ∙ ap (λ (k : ℕ). f.history ++ k ∷ []) (c.number.ensures ∙ ap (λ (x : Working _). x.number) turn.moved) in
+    let is = ap (λ (xs : List ℕ). record new { history = xs; room = room }) (sym longer)
+    ∙ ap (λ (x : Parts _). record x { history = c.push_reserved.new.self.items; room = room }) (sym c.self.view_is) in
+    subst (λ (x : Parts _). SlotsHoldAfter g.G.Told.draws (turns_made f) x) is
+    (λ record_of. slots_after f new w.number room w g.V.Device.faults g.G.Told.draws worker turn.kept c.requires.of.run turn.idle turn.later turn.log
+    some runs slots record_of)
