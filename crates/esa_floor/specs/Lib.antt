@@ -1,4 +1,5 @@
 pub mod Acts
+pub mod Ends
 pub mod Exchanges
 pub mod Keeping
 pub mod Logging
