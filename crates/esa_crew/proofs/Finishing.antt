@@ -1,5 +1,5 @@
 -- What may follow an attempt: the floor stands once the next one is begun, or once the run is ended.
-use Rattle.std.proofs.Common.{◌≡◌, ◌≢◌, ℕ, ◌+◌, ◌-◌, ◌<◌, ◌≤◌, true, false, Bool, List, [], ◌∷◌, ◌++◌, length, take, drop, get_or, Option, Some, None, refl, sym, ap, ap₂, ◌∙◌, subst, arith, append-nil, append_assoc, take-append-drop, length-append, zero-add}
+use Rattle.std.proofs.Common.{◌≡◌, ◌≢◌, ℕ, ◌+◌, ◌-◌, ◌<◌, ◌≤◌, true, false, Bool, List, [], ◌∷◌, ◌++◌, length, take, drop, get_or, Option, Some, None, refl, sym, ap, ◌∙◌, subst, arith, append-nil, append_assoc, take-append-drop, length-append, zero-add}
 use Rattle.std.specs.Prelude.{if◌then◌else◌, ◌&&◌, slice_index_or}
 use Rattle.std.specs.Option.{option_to_list}
 use Rattle.std.proofs.lemmas.List.{get_or_push, length-take-le, take_more}
@@ -17,12 +17,10 @@ use Rattle.esa_params.specs.declared.slot.Op.TheVariants.{Read as Reads}
 use Rattle.esa_params.specs.declared.slot.Region.TheVariants.{Input}
 use Rattle.esa_spec.specs.Draws.{Draw, IsDrawn}
 use Rattle.esa_spec.specs.Histories.{begun, latest, lists}
-use Rattle.esa_spec.specs.Lines.{overflows}
 use Rattle.esa_spec.specs.Traces.{all_failed, asked, attempt_trace, attempts, drain, good_attempt, is_failed, load, rest, shuffle_trace, spread}
 use Rattle.esa_spec.specs.Turns.{event_at, exchanged, next, order}
 use Rattle.esa_spec.specs.Verdicts.{failing, is_finished, is_good, left, verdict}
 use Rattle.esa_spec.specs.declared.event.Event.{Event}
-use Rattle.esa_spec.specs.declared.event.Event.TheVariants.{Exchange, Read}
 use Rattle.esa_spec.specs.declared.event.Verdict.{Verdict}
 use Rattle.esa_spec.specs.declared.event.Verdict.TheVariants as verdicts
 use Rattle.esa_stash.specs.Stash.{empty_stash}
@@ -34,8 +32,8 @@ use Rattle.esa_floor.specs.declared.turn.Outcome.TheVariants as outcome
 use Rattle.esa_floor.specs.declared.turn.Stop.{Stop}
 use Rattle.esa_floor.specs.declared.turn.Stop.TheVariants as stop
 use Rattle.esa_floor.proofs.Resting.{working}
-use Rattle.esa_floor.proofs.Turning.{spread_is, traced_is}
-use Rattle.esa_crew.specs.Ends.{HasMade, IsLoading, IsOver}
+use Rattle.esa_floor.proofs.Turning.{traced_is}
+use Rattle.esa_floor.specs.Ends.{HasMade, IsLoading, IsOver}
 use Rattle.esa_crew.proofs.Loading.{fresh}
 
 -- a floor that is ended stands, where it ends as its outcome says
@@ -115,12 +113,20 @@ module _ {V : Type 0} (faults : V → ℕ) (p : Sizes) (ds : ℕ → Draw) (f : 
       → opens f.plan f.run (at access.region access.index) a (items_in f.plan (ds a) (order f.plan.b h) access) f.recorder.last ≡ false
       → Stands faults p ds (ended_as f (outcome.Tampered (slot_number f.plan access)))
   ends_tampered access begins ends calm reads here closed =
-      ended_stands faults p ds f (outcome.Tampered (slot_number f.plan access)) has.of has.room has.drawn
-      (cut_short begins, (access, last_is access ends, reads, refl,
-      subst (λ (n : ℕ). opens f.plan f.run (at access.region access.index) n
-      (items_in f.plan (ds n) (order f.plan.b (slice_index_or (lists owner (f.history ++ owner ∷ [])) n [])) access) f.recorder.last ≡ false) (sym here)
-      (ap (λ (g : List ℕ). opens f.plan f.run (at access.region access.index) a (items_in f.plan (ds a) (order f.plan.b g) access) f.recorder.last) turns_are
-      ∙ closed)), calm)
+      ended_stands faults p ds f (outcome.Tampered (slot_number f.plan access)) has.of has.room has.drawn (
+        cut_short begins,
+        (
+          access,
+          last_is access ends,
+          reads,
+          refl,
+          subst (λ (n : ℕ). opens f.plan f.run (at access.region access.index) n
+              (items_in f.plan (ds n) (order f.plan.b (slice_index_or (lists owner (f.history ++ owner ∷ [])) n [])) access) f.recorder.last ≡ false) (sym here)
+              (ap (λ (g : List ℕ). opens f.plan f.run (at access.region access.index) a (items_in f.plan (ds a) (order f.plan.b g) access) f.recorder.last) turns_are
+              ∙ closed),
+        ),
+        calm,
+      )
 
   all_before : is_failed f.plan (ds a) h ≡ true → all_failed f.plan ds 0 (lists owner (f.history ++ owner ∷ [])) ≡ true
   all_before failed =
@@ -196,11 +202,13 @@ module _ {V : Type 0} (faults : V → ℕ) (p : Sizes) (ds : ℕ → Draw) (f : 
 
     pub ends_failed : a + 1 ≡ p.attempts → Stands faults p ds (ended_as f outcome.Overflow)
     ends_failed last =
-        ended_stands faults p ds f outcome.Overflow over.made.of over.made.room over.made.drawn
-        (whole,
-        (let count = length-lists own (f.history ++ own ∷ []) in let is = begun_is in
-        let plan = ap (λ (q : Sizes). q.attempts) over.made.of.plan in omega (arith, count, is, plan, last)),
-        all_before faults p ds f a all over.made failed, over.calm)
+        ended_stands faults p ds f outcome.Overflow over.made.of over.made.room over.made.drawn (
+          whole,
+          (let count = length-lists own (f.history ++ own ∷ []) in let is = begun_is in
+              let plan = ap (λ (q : Sizes). q.attempts) over.made.of.plan in omega (arith, count, is, plan, last)),
+          all_before faults p ds f a all over.made failed,
+          over.calm,
+        )
 
   pub ends_shuffled : is_finished f.plan (ds a) (turns_made f) ≡ true → is_good (verdict f.plan (ds a) (turns_made f)) ≡ true
       → Stands faults p ds (ended_as f (outcome.Shuffled a))
@@ -208,13 +216,16 @@ module _ {V : Type 0} (faults : V → ℕ) (p : Sizes) (ds : ℕ → Draw) (f : 
       let h = turns_made f in
       let hs = lists_before f in
       let number = number_is faults p ds f a all over.made in
-      ended_stands faults p ds f (outcome.Shuffled a) over.made.of over.made.room over.made.drawn
-      (whole, subst (λ (q : Sizes). a < q.attempts) (sym over.made.of.plan) over.made.planned,
-      ap (good_attempt f.plan ds 0) (lists_are faults p ds f a all over.made) ∙ good_attempt-push f.plan ds 0 hs h over.made.earlier
-      ∙ ap (λ (n : ℕ). if is_finished f.plan (ds n) h then (if is_good (verdict f.plan (ds n) h) then Some n else None) else None) number
-      ∙ ap (λ (t : Bool). if t then (if is_good (verdict f.plan (ds a) h) then Some a else None) else None) finished
-      ∙ ap (λ (t : Bool). if t then Some a else None) good,
-      (let count = length-lists own (f.history ++ own ∷ []) in let is = begun_is in omega (arith, count, is)), over.calm)
+      ended_stands faults p ds f (outcome.Shuffled a) over.made.of over.made.room over.made.drawn (
+        whole,
+        subst (λ (q : Sizes). a < q.attempts) (sym over.made.of.plan) over.made.planned,
+        ap (good_attempt f.plan ds 0) (lists_are faults p ds f a all over.made) ∙ good_attempt-push f.plan ds 0 hs h over.made.earlier
+            ∙ ap (λ (n : ℕ). if is_finished f.plan (ds n) h then (if is_good (verdict f.plan (ds n) h) then Some n else None) else None) number
+            ∙ ap (λ (t : Bool). if t then (if is_good (verdict f.plan (ds a) h) then Some a else None) else None) finished
+            ∙ ap (λ (t : Bool). if t then Some a else None) good,
+        (let count = length-lists own (f.history ++ own ∷ []) in let is = begun_is in omega (arith, count, is)),
+        over.calm,
+      )
 
 -- a floor in an attempt
 module _ {V : Type 0} (faults : V → ℕ) (p : Sizes) (ds : ℕ → Draw) (f : Parts V) (stands : Stands faults p ds f) (some : f.attempt ≢ None)
@@ -286,11 +297,12 @@ module _ {V : Type 0} (faults : V → ℕ) (p : Sizes) (ds : ℕ → Draw) (f : 
       attempt_begins : Begins (spread f.plan (ds n) n (take (work.done + 1) (turns_made f))) (attempt_trace f.plan (ds n) n (turns_made f))
       attempt_begins =
           let more = spread-begins f.plan (ds n) n (take (work.done + 1) (turns_made f)) behind in
-          let last = rest f.plan (ds n) n (turns_made f) (failing f.plan (ds n) (order f.plan.b (turns_made f))) in
-          (more.0 ++ last,
-          ap (λ (xs : List ℕ). spread f.plan (ds n) n xs ++ last) (sym (take-append-drop (work.done + 1) (turns_made f)))
-          ∙ ap (λ (t : List Access). t ++ last) more.1
-          ∙ append_assoc (spread f.plan (ds n) n (take (work.done + 1) (turns_made f))) more.0 last)
+          let last = rest f.plan (ds n) n (turns_made f) (failing f.plan (ds n) (order f.plan.b (turns_made f))) in (
+            more.0 ++ last,
+            ap (λ (xs : List ℕ). spread f.plan (ds n) n xs ++ last) (sym (take-append-drop (work.done + 1) (turns_made f)))
+                ∙ ap (λ (t : List Access). t ++ last) more.1
+                ∙ append_assoc (spread f.plan (ds n) n (take (work.done + 1) (turns_made f))) more.0 last,
+          )
 
       ends_with : (access : Access) → asked f.plan n (event_at f.plan.b (turns_made f) work.done) ≡ Some access
           → EndsWith (spread f.plan (ds n) n (take (work.done + 1) (turns_made f))) access
@@ -367,7 +379,11 @@ module _ {V : Type 0} (faults : V → ℕ) (p : Sizes) (ds : ℕ → Draw) (f : 
   pub load_fails : (access : Access) → EndsWith f.recorder.trace access → Rose f.faults (faults f.recorder.device)
       → Stands faults p ds (ended_as f (outcome.DeviceFault (slot_number f.plan access)))
   load_fails access ends rose =
-      ended_stands faults p ds f (outcome.DeviceFault (slot_number f.plan access)) loading.of loading.room loading.drawn
-      ((loading.trace.0,
-      ap (λ (l : List (List ℕ)). load f.plan ++ attempts f.plan ds 0 l) none_before ∙ append-nil (load f.plan) ∙ loading.trace.1),
-      (access, ends, refl), rose)
+      ended_stands faults p ds f (outcome.DeviceFault (slot_number f.plan access)) loading.of loading.room loading.drawn (
+        (
+          loading.trace.0,
+          ap (λ (l : List (List ℕ)). load f.plan ++ attempts f.plan ds 0 l) none_before ∙ append-nil (load f.plan) ∙ loading.trace.1,
+        ),
+        (access, ends, refl),
+        rose,
+      )

@@ -1,6 +1,6 @@
 mod Beginning
 mod Ending
-mod Finishing
+pub mod Finishing
 mod Loading
 mod Posting
 mod Replaying

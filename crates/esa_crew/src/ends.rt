@@ -17,7 +17,7 @@ ghost use Rattle.esa_floor.specs.Parts.{Parts, begun_as, ended_as};
 ghost use Rattle.esa_floor.specs.Standing.{Begins, EndsWith, Stands, attempt_begun, items_in, turns_made};
 ghost use Rattle.esa_floor.specs.declared.turn.Outcome.{Outcome};
 ghost use Rattle.esa_floor.specs.declared.turn.Stop.{Stop};
-ghost use Rattle.esa_crew.specs.Ends.{HasMade, IsLoading, IsOver};
+ghost use Rattle.esa_floor.specs.Ends.{HasMade, IsLoading, IsOver};
 
 use esa_device::Device;
 

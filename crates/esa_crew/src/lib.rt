@@ -12,8 +12,9 @@ mod replays;
 
 pub use begins::begin;
 pub use ends::{
-    accesses_that_were_made, drains_follow, failed_attempts_lead_on, runs_end_with_a_turn, runs_end_with_an_access,
-    runs_end_with_the_load, runs_end_with_their_attempts, turns_that_were_made,
+    accesses_that_were_made, drains_follow, failed_attempts_lead_on, runs_end_with_a_turn,
+    runs_end_with_an_access, runs_end_with_the_load, runs_end_with_their_attempts,
+    turns_that_were_made,
 };
 pub use loads::loaded_floors_begin;
 pub use members::workers;

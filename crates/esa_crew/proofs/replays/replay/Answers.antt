@@ -106,8 +106,11 @@ loop-made-preserved g c =
       hold = λ all queues. done.hold (inv.hold all queues) (inv.queues all queues);
       queues = λ all queues. done.queues (inv.hold all queues) (inv.queues all queues);
       slots = λ all queues slots. done.slots (inv.hold all queues) (inv.slots all queues slots);
-      stops = λ ran halted. (turns_made now, done.stops halted,
-          (λ all queues slots. (done.queues_before halted (inv.queues all queues), done.slots_before halted (inv.slots all queues slots))));
+      stops = λ ran halted. (
+        turns_made now,
+        done.stops halted,
+        (λ all queues slots. (done.queues_before halted (inv.queues all queues), done.slots_before halted (inv.slots all queues slots))),
+      );
       origin = done.origin ∙ inv.origin;
       attempt = done.attempt ∙ inv.attempt;
       begun = done.begun ∙ inv.begun;
