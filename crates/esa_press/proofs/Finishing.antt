@@ -1,5 +1,5 @@
 -- How the rest of an attempt ends on a floor.
-use Rattle.std.proofs.Common.{◌≡◌, ℕ, suc, ◌+◌, ◌-◌, ◌*◌, ◌<◌, ◌≤◌, Bool, true, false, cond, List, [], ◌∷◌, ◌++◌, length, take, map, Option, Some, None, Result, Ok, Err, refl, sym, ap, ◌∙◌, subst, arith, append-nil, append_assoc, length-append, inl, inr}
+use Rattle.std.proofs.Common.{◌≡◌, ◌≢◌, ℕ, suc, ◌+◌, ◌-◌, ◌*◌, ◌<◌, ◌≤◌, Bool, true, false, cond, List, [], ◌∷◌, ◌++◌, length, take, map, Option, Some, None, Result, Ok, Err, refl, sym, ap, ◌∙◌, subst, arith, append-nil, append_assoc, length-append, inl, inr}
 use Rattle.std.specs.Prelude.{find, unwrap_or}
 use Rattle.std.specs.List.{range_with_len}
 use Rattle.std.proofs.lemmas.Bool.{cases_lt}
@@ -7,7 +7,8 @@ use Rattle.std.proofs.lemmas.List.{length-map, map-append, take_all}
 use Rattle.std.proofs.lemmas.List.FromFn.{length-range_with_len, map-range_with_len_more}
 use Rattle.std.proofs.Math.Nat.{suc-mul, mul-le-mul_right}
 use Rattle.esa_device.specs.Recording.{Recorded}
-use Rattle.esa_press.specs.Ends.{HasMade, IsOver}
+use Rattle.esa_floor.specs.Ends.{HasMade, IsOver}
+use Rattle.esa_floor.specs.Keeping.{AreChunksStored, HasInput, QueuesHold, SlotsHold}
 use Rattle.esa_floor.specs.Parts.{Parts}
 use Rattle.esa_floor.specs.Standing.{IsAt, IsAtWork, IsOf, IsSpread, StopsAt, items_in, lists_before, turns_made}
 use Rattle.esa_floor.specs.declared.turn.Outcome.{Outcome}
@@ -22,15 +23,18 @@ use Rattle.esa_params.specs.Sizes.{Sizes, below}
 use Rattle.esa_params.specs.Slots.{at, greatest_trace}
 use Rattle.esa_params.specs.declared.slot.Access.{Access}
 use Rattle.esa_spec.specs.Draws.{Draw, IsDrawn}
+use Rattle.esa_report.specs.declared.item.Item.{Item}
 use Rattle.esa_spec.specs.Histories.{begun}
+use Rattle.esa_spec.specs.Lines.{queued}
 use Rattle.esa_spec.specs.Traces.{attempt_trace, attempts, compression, drain, is_failed, load, rest, spread, walk, written_input, written_tail}
 use Rattle.esa_spec.specs.Turns.{order, writes}
 use Rattle.esa_spec.specs.Verdicts.{drained, failing, first_bad, is_finished, is_good, is_left, left, settled, step_verdict, steps, verdict}
 use Rattle.esa_spec.specs.declared.event.Verdict.{Verdict}
 use Rattle.esa_spec.specs.declared.event.Verdict.TheVariants as verdict
-use Rattle.esa_stash.specs.Stash.{Held}
+use Rattle.esa_stash.specs.Stash.{Held, queue_at}
 use Rattle.esa_vault.specs.declared.fault.VaultFault.{VaultFault}
 use Rattle.esa_vault.specs.declared.fault.VaultFault.TheVariants.{Device, Tampered}
+use Rattle.esa_press.specs.Contents.{AreQueued}
 use Rattle.esa_press.specs.Drained.{AreDrained, DrainEnd}
 use Rattle.esa_press.specs.Over.{HasFailed, IsCut, IsDistributed}
 use Rattle.esa_press.specs.Stepped.{AreMade, EndsSteps}
@@ -118,6 +122,19 @@ module _ {V : Type 0} (faults : V → ℕ) (p : Sizes) (ds : ℕ → Draw) (f : 
 
   begun_is : begun f.plan.workers f.history ≡ a + 1
   begun_is = let is = at_work.attempt in let some = at_work.some_begun in omega (arith, is, some)
+
+  some_attempt : f.attempt ≢ None
+  some_attempt never = let clash : Some a ≡ None = sym ready.attempt ∙ never in cc clash
+
+  -- what its queues and the slots of its chunks hold
+  pub queues_are : (record_of : ℕ → Item) → HasInput f record_of → QueuesHold ds f → AreQueued f.plan d h record_of f.stash
+  queues_are record_of input holds = λ i i_in.
+      subst (λ (b : ℕ). queue_at f.stash i ≡ map record_of (queued f.plan (ds b) (order f.plan.b h) (length (order f.plan.b h)) i)) (sym at_work.attempt)
+      (holds record_of input some_attempt ready.runs i i_in)
+
+  pub chunks_are : (record_of : ℕ → Item) → HasInput f record_of → SlotsHold ds f → AreChunksStored f.plan f.run a d record_of h f.recorder.log
+  chunks_are record_of input holds =
+      subst (λ (b : ℕ). AreChunksStored f.plan f.run b (ds b) record_of h f.recorder.log) (sym at_work.attempt) (holds record_of input some_attempt ready.runs)
 
   -- what the load, the attempts before and the turns have left of the most that a shuffle makes
   left_over : (b x n trace room earlier last : ℕ) → 3 * b + n * x ≤ trace + room → trace ≡ (b + earlier) + last

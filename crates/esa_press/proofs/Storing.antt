@@ -14,6 +14,7 @@ use Rattle.esa_device.proofs.LogLaws.{faithful-front, faithful-last, took-elsewh
 use Rattle.esa_envelope.specs.declared.keys.Keys.{Keys}
 use Rattle.esa_laws.proofs.FinishLaws.{All-below}
 use Rattle.esa_laws.proofs.LineLaws.{length-queued}
+use Rattle.esa_laws.proofs.PairLaws.{each-pair}
 use Rattle.esa_laws.proofs.PlaceLaws.{fits-each}
 use Rattle.esa_laws.proofs.Tests.{bit}
 use Rattle.esa_laws.proofs.TotalLaws.{all-exchanged}
@@ -31,7 +32,7 @@ use Rattle.esa_spec.specs.Draws.{Draw}
 use Rattle.esa_spec.specs.Lines.{chunk, queued, tail}
 use Rattle.esa_spec.specs.Places.{exchange_of, output_places, window}
 use Rattle.esa_spec.specs.Traces.{chunk_slot, written_tail}
-use Rattle.esa_spec.specs.Turns.{order, writes}
+use Rattle.esa_spec.specs.Turns.{events, is_write_at, order, writes}
 use Rattle.esa_spec.specs.Verdicts.{reached}
 use Rattle.esa_stash.specs.Stash.{padded, queue_at}
 use Rattle.esa_vault.specs.Filled.{is_filled, text_of}
@@ -40,8 +41,9 @@ use Rattle.esa_vault.specs.Seals.{is_text_of, opens, sealed_block}
 use Rattle.esa_vault.specs.declared.fault.VaultFault.TheVariants.{Device, Tampered}
 use Rattle.esa_vault.proofs.BlockLaws.{opens-sealed}
 use Rattle.esa_vault.proofs.TextLaws.{place-inside, text-fills}
+use Rattle.esa_floor.specs.Keeping.{AreChunksStored, HasInput, chunk_block}
 use Rattle.esa_floor.specs.Parts.{Parts, count_at}
-use Rattle.esa_press.specs.Contents.{AreChunksStored, AreItems, AreOrders, ArePut, AreQueued, AreTailsStored, EachOpens, GoesOnPressing, GoesOnWriting, HoldsDistribution, IsOfPress, chunk_block, has_stored, output_of, tail_of, waiting_items}
+use Rattle.esa_press.specs.Contents.{AreItems, AreOrders, ArePut, AreQueued, AreTailsStored, EachOpens, GoesOnPressing, GoesOnWriting, HoldsDistribution, IsOfPress, has_stored, output_of, tail_of, waiting_items}
 use Rattle.esa_press.specs.Drained.{AreDrained, DrainEnd, failed_tail, stored_tail, tail_block}
 use Rattle.esa_press.specs.Fetched.{AreStored, GoesOnReading, IsFetched, IsStored, part_slot}
 use Rattle.esa_press.specs.Pressed.{ImportAnswer, Pressed, PutAnswer, output_block}
@@ -148,7 +150,7 @@ module _ (p : Sizes) (keys : Keys) (d : Draw) (h counts tails : List ℕ) (attem
     are_stored log holds = record {
       chunk = λ j j_in. record {
         fit = records_fit (item_length p.form) p.c record_of (chunk p d o (exchange_of o j) i) holds.items (chunk_few p d h counts tails counted i i_in j j_in);
-        took = holds.chunks j i j_in i_in;
+        took = (holds.chunks j i j_in i_in (let once : count_by (is_write_at j i) (events p.b h) ≡ 1 = each-pair p.b h j i counted.all j_in i_in in omega (arith, once))).took;
       };
       left = record {
         fit = records_fit (item_length p.form) p.k record_of (tail p d o i) holds.items tail_short;
@@ -238,19 +240,23 @@ spared_before p number before entry of = by entry.access.op refl
         let there : slot_number p entry.access ≡ number_of p (at Output entry.access.index) = ap (λ (r : Region). number_of p (at r entry.access.index)) (of is) in
         inr (λ same. absurd (omega (arith, same, there, before)))
 
-module _ (p : Sizes) (keys : Keys) (d : Draw) (h : List ℕ) (a : ℕ) (record_of : ℕ → Item) where
-  took_on : (n number : ℕ) (bytes : List ℕ) (old new : List Carried) → number < number_of p (at Output 0) → GoesOnWriting n old new → Took p number bytes old → Took p number bytes new
-  took_on n number bytes old new before on took =
-      subst (λ (l : List Carried). Took p number bytes l) (sym on.longer)
-      (took_over p number bytes old on.more (All-weaker IsOfPress (Spares p number) (spared_before p number before) on.more on.each) took)
+pub took_on : (p : Sizes) (n number : ℕ) (bytes : List ℕ) (old new : List Carried) → number < number_of p (at Output 0) → GoesOnWriting n old new → Took p number bytes old → Took p number bytes new
+took_on p n number bytes old new before on took =
+    subst (λ (l : List Carried). Took p number bytes l) (sym on.longer)
+    (took_over p number bytes old on.more (All-weaker IsOfPress (Spares p number) (spared_before p number before) on.more on.each) took)
 
+module _ (p : Sizes) (keys : Keys) (d : Draw) (h : List ℕ) (a : ℕ) (record_of : ℕ → Item) where
   pub holds_on : (n : ℕ) (old new : List Carried) → GoesOnWriting n old new → HoldsDistribution p keys d h a record_of old → HoldsDistribution p keys d h a record_of new
   holds_on n old new on holds = record {
     items = holds.items;
-    chunks = λ j i j_in i_in.
+    chunks = λ j i j_in i_in written.
         let within = place-inside p.b j p.b j_in in
-        took_on n (number_of p (chunk_slot p j i)) (chunk_block p keys d h a record_of j i) old new (omega (arith, within, i_in)) on (holds.chunks j i j_in i_in);
-    tails = λ i i_in. took_on n (number_of p (at Tail i)) (tail_of p keys d h a record_of i) old new (omega (arith, i_in)) on (holds.tails i i_in);
+        let one = holds.chunks j i j_in i_in written in
+        record {
+          exchanged = one.exchanged;
+          took = took_on p n (number_of p (chunk_slot p j i)) (chunk_block p keys a d record_of (order p.b h) j i) old new (omega (arith, within, i_in)) on one.took;
+        };
+    tails = λ i i_in. took_on p n (number_of p (at Tail i)) (tail_of p keys d h a record_of i) old new (omega (arith, i_in)) on (holds.tails i i_in);
   }
 
   -- the output buckets so far
@@ -347,10 +353,42 @@ module _ {V : Type 0} (faults : V → ℕ) (a : ℕ) (f : Parts V) (d : Draw) (h
     took_drained o new bytes (Err (halt.Fault (Tampered slot))) never took = absurd never
 
   pub chunks_stay : {T : Type 0} (o : List ℕ) (new : Parts V) (result : Result T Halt) → DrainEnd faults d o a f new result
-      → AreChunksStored f.plan f.run d h a record_of f.recorder.log → AreChunksStored f.plan f.run d h a record_of new.recorder.log
-  chunks_stay o new result end stored = λ j i j_in i_in.
+      → AreChunksStored f.plan f.run a d record_of h f.recorder.log → AreChunksStored f.plan f.run a d record_of h new.recorder.log
+  chunks_stay o new result end stored = λ j i j_in i_in written.
       let within = place-inside f.plan.b j f.plan.b j_in in
-      took_drained (number_of f.plan (chunk_slot f.plan j i)) (omega (arith, within, i_in)) o new (chunk_block f.plan f.run d h a record_of j i) result end (stored j i j_in i_in)
+      let one = stored j i j_in i_in written in
+      record {
+        exchanged = one.exchanged;
+        took = took_drained (number_of f.plan (chunk_slot f.plan j i)) (omega (arith, within, i_in)) o new (chunk_block f.plan f.run a d record_of (order f.plan.b h) j i) result end one.took;
+      }
+
+  -- the input of the floor stays too
+  the_same_but : {T : Type 0} (o : List ℕ) (new : Parts V) (result : Result T Halt) → DrainEnd faults d o a f new result → new ≡ record f { recorder = new.recorder; stash = new.stash }
+  the_same_but o new (Ok done) end = end.1.others
+  the_same_but o new (Err (halt.Verdict v)) end = end.3.others
+  the_same_but o new (Err (halt.Fault (Device slot))) end = end.3.others
+  the_same_but o new (Err (halt.Fault (Tampered slot))) never = absurd never
+
+  pub input_drained : {T : Type 0} (o : List ℕ) (new : Parts V) (result : Result T Halt) → DrainEnd faults d o a f new result → IsFaithful f.plan new.recorder.log
+      → HasInput f record_of → HasInput new record_of
+  input_drained o new result end faithful input =
+      subst (λ (x : Parts V). HasInput x record_of) (sym (the_same_but o new result end))
+      (record {
+        faithful = faithful;
+        sealed = λ j j_in.
+            let one = input.sealed j j_in in
+            (one.0, took_drained (number_of f.plan (at Input j)) (omega (arith, j_in)) o new (sealed_block f.plan f.run (at Input j) 0 one.0) result end one.1, one.2);
+      })
+
+-- so it does in a compression
+pub input_pressed : {V : Type 0} (f : Parts V) (r : Recorded V) (record_of : ℕ → Item) → GoesOnPressing f.recorder.log r.log → IsFaithful f.plan r.log
+    → HasInput f record_of → HasInput (record f { recorder = r }) record_of
+input_pressed f r record_of on faithful input = record {
+  faithful = faithful;
+  sealed = λ j j_in.
+      let one = input.sealed j j_in in
+      (one.0, took_on f.plan on.0 (number_of f.plan (at Input j)) (sealed_block f.plan f.run (at Input j) 0 one.0) f.recorder.log r.log (omega (arith, j_in)) on.1 one.1, one.2);
+}
 
 -- the answer of a press that knows its parts, over the recorder of its floor
 pub import_answer_is : {V : Type 0} (faults : V → ℕ) (a i : ℕ) (w : Pressed) (p : Sizes) (keys : Keys) (parts : List ℕ) (queue : List Item) → w.plan ≡ p → w.run ≡ keys → w.counts ≡ parts → w.queue ≡ queue

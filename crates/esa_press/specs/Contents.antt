@@ -2,15 +2,15 @@
 use Rattle.std.specs.Prelude.{◌≡◌, ℕ, ◌<◌, ◌++◌, ◌&&◌, Bool, List, map, length, All, count_by, is_some, Result, Ok, Err}
 use Rattle.esa_device.specs.Logs.{Carried, Took}
 use Rattle.esa_envelope.specs.declared.keys.Keys.{Keys}
+use Rattle.esa_floor.specs.Keeping.{AreChunksStored}
 use Rattle.esa_params.specs.Sizes.{Sizes}
 use Rattle.esa_params.specs.Slots.{at, is_writing, item_length, number_of}
 use Rattle.esa_params.specs.declared.slot.Op.TheVariants.{Write as Writes}
 use Rattle.esa_params.specs.declared.slot.Region.TheVariants.{Output, Tail}
 use Rattle.esa_report.specs.declared.item.Item.{Item}
 use Rattle.esa_spec.specs.Draws.{Draw}
-use Rattle.esa_spec.specs.Lines.{chunk, queued, tail}
-use Rattle.esa_spec.specs.Places.{exchange_of, output_places, window}
-use Rattle.esa_spec.specs.Traces.{chunk_slot}
+use Rattle.esa_spec.specs.Lines.{queued, tail}
+use Rattle.esa_spec.specs.Places.{output_places, window}
 use Rattle.esa_spec.specs.Turns.{order}
 use Rattle.esa_stash.specs.Stash.{Held, queue_at}
 use Rattle.esa_vault.specs.Filled.{text_of}
@@ -40,11 +40,7 @@ AreQueued p d h record_of stash =
     (i : ℕ) → i < p.b → queue_at stash i ≡ map record_of (queued p d (order p.b h) (length (order p.b h)) i)
 
 module _ (p : Sizes) (keys : Keys) (d : Draw) (h : List ℕ) (a : ℕ) (record_of : ℕ → Item) where
-  -- the chunk of bucket j for the target i in attempt a with the turns h: the block of the records of its places
-  abbrev pub chunk_block : ℕ → ℕ → List ℕ
-  chunk_block j i = sealed_records p keys (chunk_slot p j i) a p.c (map record_of (chunk p d (order p.b h) (exchange_of (order p.b h) j) i))
-
-  -- the tail of the target i, likewise
+  -- the tail of the target i in attempt a with the turns h: the block of the records of its places, with dummies behind them
   abbrev pub tail_of : ℕ → List ℕ
   tail_of i = sealed_records p keys (at Tail i) a p.k (map record_of (tail p d (order p.b h) i))
 
@@ -52,22 +48,18 @@ module _ (p : Sizes) (keys : Keys) (d : Draw) (h : List ℕ) (a : ℕ) (record_o
   abbrev pub output_of : ℕ → List ℕ
   output_of j = sealed_block p keys (at Output j) a (text_of (item_length p.form) (map record_of (output_places p d h j)))
 
-  -- the latest write of the slot of each chunk took its block
-  abbrev pub AreChunksStored : List Carried → Type 0
-  AreChunksStored log = (j i : ℕ) → j < p.b → i < p.b → Took p (number_of p (chunk_slot p j i)) (chunk_block j i) log
-
-  -- and so it is with the slot of each tail
+  -- the latest write of the slot of each tail took its block
   abbrev pub AreTailsStored : List Carried → Type 0
   AreTailsStored log = (i : ℕ) → i < p.b → Took p (number_of p (at Tail i)) (tail_of i) log
 
-  -- and with those of the first n output buckets
+  -- and so it is with those of the first n output buckets
   abbrev pub AreOutputsStored : ℕ → List Carried → Type 0
   AreOutputsStored n log = (j : ℕ) → j < n → Took p (number_of p (at Output j)) (output_of j) log
 
 -- what was distributed in an attempt is stored: the chunks and the tails, of the records of their places
 pub record HoldsDistribution (p : Sizes) (keys : Keys) (d : Draw) (h : List ℕ) (a : ℕ) (record_of : ℕ → Item) (log : List Carried) : Type 0 where
   pub items : AreItems (item_length p.form) record_of
-  pub chunks : AreChunksStored p keys d h a record_of log
+  pub chunks : AreChunksStored p keys a d record_of h log
   pub tails : AreTailsStored p keys d h a record_of log
 
 -- an access wrote, and didn't fail

@@ -1,6 +1,5 @@
 pub mod Contents
 pub mod Drained
-pub mod Ends
 pub mod Fetched
 pub mod Over
 pub mod Pressed

@@ -1,6 +1,6 @@
 -- A floor whose chunks are all written, and how the rest of its attempt ends.
 use Rattle.std.specs.Prelude.{◌≡◌, ℕ, ◌*◌, ◌<◌, true, List, length, Some, None}
-use Rattle.esa_press.specs.Ends.{HasMade, IsOver}
+use Rattle.esa_floor.specs.Ends.{HasMade, IsOver}
 use Rattle.esa_floor.specs.Parts.{Parts}
 use Rattle.esa_floor.specs.Standing.{Begins, EndsWith, Stands, items_in, turns_made}
 use Rattle.esa_params.specs.Sizes.{Sizes}

@@ -4,6 +4,7 @@ ghost use Rattle.std.specs.Prelude.{◌≡◌, ℕ, suc, ◌+◌, ◌-◌, ◌*�
 ghost use Rattle.std.specs.List.{range_with_len};
 ghost use Rattle.esa_compress.specs.Held.{held_in};
 ghost use Rattle.esa_device.specs.Logs.{Carried, IsFaithful};
+ghost use Rattle.esa_floor.specs.Keeping.{HasInput};
 ghost use Rattle.esa_floor.specs.Standing.{turns_made};
 ghost use Rattle.esa_params.specs.Sizes.{ArePlanned, first};
 ghost use Rattle.esa_spec.specs.Turns.{order};
@@ -174,7 +175,9 @@ impl Press {
         ensures total { length floor.new.recorder.trace + floor.new.recorder.room ≡ length floor.old.recorder.trace + floor.old.recorder.room }
         ensures others { self.new ≡ record self.old { queue = self.new.queue; counts = self.new.counts } }
 
+        // Blocks are read, and none is written but those of the output. So the input stays.
         ensures log { GoesOnPressing floor.old.recorder.log floor.new.recorder.log }
+        ensures input { (record_of : ℕ → Item) → IsFaithful floor.old.plan floor.new.recorder.log → HasInput floor.old record_of → HasInput floor.new record_of }
 
         // Where the coins draw the orders of the attempt, what was distributed is stored, and the log is faithful, each block
         // opens, and the output buckets that were written have the records of their places, in order: all of them, where all

@@ -1,12 +1,14 @@
 //! The drain: what is left in the stash is written as tails.
 
 ghost use Rattle.std.specs.Prelude.{◌≡◌, ℕ, ◌*◌, ◌<◌, ◌≤◌, Some, OnOk, length, slice_index};
+ghost use Rattle.esa_device.specs.Logs.{IsFaithful};
+ghost use Rattle.esa_floor.specs.Keeping.{AreChunksStored, HasInput};
 ghost use Rattle.esa_floor.specs.Standing.{IsSpread, turns_made};
 ghost use Rattle.esa_spec.specs.Draws.{IsDrawn};
 ghost use Rattle.esa_spec.specs.Turns.{order};
 ghost use Rattle.esa_stash.specs.Stash.{queue_at};
 ghost use Rattle.esa_report.specs.declared.item.Item.{Item};
-ghost use Rattle.esa_press.specs.Contents.{AreChunksStored, AreQueued, AreTailsStored};
+ghost use Rattle.esa_press.specs.Contents.{AreQueued, AreTailsStored};
 ghost use Rattle.esa_press.specs.Drained.{DrainEnd};
 ghost use Rattle.esa_press.specs.Stepped.{AreCounted};
 
@@ -36,11 +38,13 @@ impl Press {
         ensures counted { IsDrawn floor.old.plan (G.draws attempt) → OnOk result (AreCounted floor.old.plan (G.draws attempt) (turns_made floor.old) floor.old.counts self.new.tails) }
         ensures others { self.new ≡ record self.old { tails = self.new.tails } }
 
-        // Where the queues have the records of the places that wait, the tails have them then. The chunks stay as they were.
+        // Where the queues have the records of the places that wait, the tails have them then. The chunks stay as they were,
+        // and so does the input.
         ensures tails { (record_of : ℕ → Item) → AreQueued floor.old.plan (G.draws attempt) (turns_made floor.old) record_of floor.old.stash
             → OnOk result (AreTailsStored floor.old.plan floor.old.run (G.draws attempt) (turns_made floor.old) attempt record_of floor.new.recorder.log) }
-        ensures chunks { (record_of : ℕ → Item) → AreChunksStored floor.old.plan floor.old.run (G.draws attempt) (turns_made floor.old) attempt record_of floor.old.recorder.log
-            → AreChunksStored floor.old.plan floor.old.run (G.draws attempt) (turns_made floor.old) attempt record_of floor.new.recorder.log }
+        ensures chunks { (record_of : ℕ → Item) → AreChunksStored floor.old.plan floor.old.run attempt (G.draws attempt) record_of (turns_made floor.old) floor.old.recorder.log
+            → AreChunksStored floor.old.plan floor.old.run attempt (G.draws attempt) record_of (turns_made floor.old) floor.new.recorder.log }
+        ensures input { (record_of : ℕ → Item) → IsFaithful floor.old.plan floor.new.recorder.log → HasInput floor.old record_of → HasInput floor.new record_of }
     {
         for target in 0..self.plan().b() {
             if let Err(halt) = self.drain_one(floor, attempt, target) {

@@ -3,15 +3,18 @@
 
 ghost use Rattle.std.specs.Prelude.{◌≡◌, ℕ, ◌+◌, ◌*◌, ◌<◌, ◌≤◌, true, Ok, Err, Result, Some, length};
 ghost use Rattle.esa_device.specs.Recording.{Recorded};
-ghost use Rattle.esa_press.specs.Ends.{IsOver};
+ghost use Rattle.esa_floor.specs.Ends.{IsOver};
+ghost use Rattle.esa_floor.specs.Keeping.{AreChunksStored, HasInput, QueuesHold, SlotsHold};
 ghost use Rattle.esa_floor.specs.Parts.{Parts};
 ghost use Rattle.esa_floor.specs.Standing.{IsSpread, turns_made};
 ghost use Rattle.esa_params.specs.Sizes.{Sizes};
+ghost use Rattle.esa_report.specs.declared.item.Item.{Item};
 ghost use Rattle.esa_spec.specs.Draws.{Draw, IsDrawn};
 ghost use Rattle.esa_spec.specs.Turns.{order};
 ghost use Rattle.esa_spec.specs.Verdicts.{is_finished, is_good, steps, verdict};
 ghost use Rattle.esa_spec.specs.declared.event.Verdict.{Verdict};
 ghost use Rattle.esa_vault.specs.declared.fault.VaultFault.{VaultFault};
+ghost use Rattle.esa_press.specs.Contents.{AreQueued};
 ghost use Rattle.esa_press.specs.Drained.{DrainEnd};
 ghost use Rattle.esa_press.specs.Over.{HasFailed, IsCut, IsDistributed};
 ghost use Rattle.esa_press.specs.Stepped.{AreMade};
@@ -28,6 +31,15 @@ pub fn distributed_floors_are_ready<V: Device>()
     ensures ready { (p : Sizes) (ds : ℕ → Draw) (f : Parts V) (a : ℕ) → IsDistributed V.faults p ds f a → f.recorder.plan ≡ Some f.plan }
     ensures room { (p : Sizes) (ds : ℕ → Draw) (f : Parts V) (a : ℕ) → IsDistributed V.faults p ds f a
         → f.plan.b + (f.plan.b * (f.plan.b + 1) + f.plan.b) ≤ f.recorder.room }
+{}
+
+/// The queues of such a floor and the slots of its chunks have the records of their places, where the floor has kept what it
+/// was given.
+pub fn distributed_floors_hold<V: Device>()
+    ensures queues { (p : Sizes) (ds : ℕ → Draw) (f : Parts V) (a : ℕ) (record_of : ℕ → Item) → IsDistributed V.faults p ds f a → HasInput f record_of → QueuesHold ds f
+        → AreQueued f.plan (ds a) (turns_made f) record_of f.stash }
+    ensures chunks { (p : Sizes) (ds : ℕ → Draw) (f : Parts V) (a : ℕ) (record_of : ℕ → Item) → IsDistributed V.faults p ds f a → HasInput f record_of → SlotsHold ds f
+        → AreChunksStored f.plan f.run a (ds a) record_of (turns_made f) f.recorder.log }
 {}
 
 /// An attempt of which too much is left in the stash is over and has failed. Where the write of a tail failed, that cuts it.

@@ -16,6 +16,9 @@ mod press;
 mod room;
 mod store;
 
-pub use ends::{compressions_end_attempts, distributed_floors_are_ready, drains_end_attempts};
+pub use ends::{
+    compressions_end_attempts, distributed_floors_are_ready, distributed_floors_hold,
+    drains_end_attempts,
+};
 pub use halt::Halt;
 pub use press::Press;

@@ -1,5 +1,6 @@
 use Rattle.std.proofs.Common.{◌≡◌, ◌+◌, ◌-◌, ◌*◌, ◌<◌, ◌≤◌, ℕ, suc, Ok, Err, length, refl, sym, ap, ◌∙◌, subst, arith, add-one, map}
 use Rattle.std.proofs.Math.Nat.{add-mul, mul-le-mul_right}
+use Rattle.esa_floor.specs.Keeping.{HasInput}
 use Rattle.esa_floor.specs.Parts.{Parts}
 use Rattle.esa_floor.specs.Standing.{turns_made}
 use Rattle.esa_laws.proofs.SizeLaws.{first-zero}
@@ -10,7 +11,7 @@ use Rattle.esa_spec.specs.Verdicts.{imported, reached, steps_of}
 use Rattle.esa_press.specs.Pressed.{Pressed}
 use Rattle.esa_press.specs.Stepped.{AreMade}
 use Rattle.esa_press.proofs.Stepping.{imported_few, imported_rises, made_none, made_output, made_outputs_bad}
-use Rattle.esa_press.proofs.Storing.{Puts, pressing_faithful, pressing_read, pressing_then, put_none, stops_with}
+use Rattle.esa_press.proofs.Storing.{Puts, input_pressed, pressing_faithful, pressing_read, pressing_then, put_none, stops_with}
 use Rattle.esa_press.proofs.Fetching.{reads_none}
 use Rattle.esa_press.specs.Contents.{ArePut}
 use Rattle.std.proofs.Math.Seq.{drop-nil}
@@ -43,6 +44,18 @@ loop-output-init g c =
 pub returns-in-Err-clause-log : goal.returns-in-Err-clause-log
 returns-in-Err-clause-log g c =
     pressing_then c.args.floor.now.recorder.log c.loop-output.floor.recorder.log c.put_out.new.floor.recorder.log c.loop-output.invariant.log c.put_out.ensures.log
+
+pub returns-in-Err-clause-input : goal.returns-in-Err-clause-input
+returns-in-Err-clause-input g c = λ record_of faithful input.
+    let f = c.args.floor.now in
+    let new = c.put_out.new.floor.recorder in
+    subst (λ (x : Parts _). HasInput x record_of) (sym (c.put_out.ensures.floor ∙ ap (λ (x : Parts _). record x { recorder = new }) c.loop-output.invariant.floor))
+    (input_pressed f new record_of (returns-in-Err-clause-log g c) faithful input)
+
+pub returns-clause-input : goal.returns-clause-input
+returns-clause-input g c = λ record_of faithful input.
+    let inv = c.loop-output.invariant in
+    subst (λ (x : Parts _). HasInput x record_of) (sym inv.floor) (input_pressed c.args.floor.now c.loop-output.floor.recorder record_of inv.log faithful input)
 
 pub returns-in-Err-clause-outputs : goal.returns-in-Err-clause-outputs
 returns-in-Err-clause-outputs g c = λ record_of orders holds faithful.
