@@ -6,8 +6,10 @@ of the two powers, beyond the key, which is prepared once. It stands beside enco
 bare hash of as many blocks.
 
 A database has shares of each value at as many points as it takes, and of a third of the values at one more. Reading,
-recovering and writing it stands beside reading and writing it as it is; what it takes to make it is left out of both.
-At 30,000 values of three shares these are 100,000 rows. Beside a small database and beside few shares a value stands
+recovering and writing it stands beside reading and writing it as it is and the bare hash of each value, since a value
+counts only where its mark is the one that was sent; what it takes to make the database is left out of all. The ratio
+to reading and writing alone is printed too: the hash alone takes four times as much as they do. At 30,000 values of
+three shares these are 100,000 rows. Beside a small database and beside few shares a value stands
 what is added for each row and share that it takes. Instructions are callgrind's, so that a busy machine changes nothing.
 """
 
@@ -40,11 +42,12 @@ def recovered(run):
     rows = {}
     for values, shares in [(FEW_VALUES, SHARES), (VALUES, SHARES), (FEW_VALUES, MANY_SHARES)]:
         made, copied, whole = (run(f"shares-{work}", values, shares) for work in ["make", "copy", "recover"])
+        bare = run("hash", values)
         count = values * shares + values // 3
-        rows[values, shares] = (whole - made) / (copied - made), (whole - copied) / (count * shares)
+        rows[values, shares] = (whole - made) / (copied - made + bare), (whole - copied) / (count * shares)
         print(f"{count:>8} rows of {values} values, {shares} shares: {(copied - made) / count:.0f} instructions a row to copy,"
-              f" {(whole - made) / count:.0f} to recover", flush=True)
-    yield "recover, of reading and writing", rows[VALUES, SHARES][0], RECOVER_LIMIT
+              f" {(whole - made) / count:.0f} to recover, {(whole - made) / (copied - made):.1f} times as many", flush=True)
+    yield "recover, of reading, writing and a bare hash a value", rows[VALUES, SHARES][0], RECOVER_LIMIT
     small = rows[FEW_VALUES, SHARES][1]
     yield f"what a row and share adds with {VALUES} values, of that with {FEW_VALUES}", rows[VALUES, SHARES][1] / small, GROWTH
     yield f"what a row and share adds with {MANY_SHARES} shares, of that with {SHARES}", rows[FEW_VALUES, MANY_SHARES][1] / small, GROWTH
