@@ -57,15 +57,15 @@ forward_file command request read =
     file command source.Input (name_of request field.Input) read >>= λ bytes. read_step refusal.Forward (forward_in bytes)
 
 -- what comes of the forward file
-abbrev pub analysed_by : Request → List ℕ → Forwarded → Work
-analysed_by job master forwarded = database_work (name_of job field.Output) forwarded.form (counted_by master forwarded)
+abbrev pub analyse_master_work : Request → List ℕ → Forwarded → Work
+analyse_master_work job master forwarded = database_work (name_of job field.Output) forwarded.form (counted_by master forwarded)
 
-abbrev pub analysed : Request → Ring → Forwarded → Work
-analysed job ring forwarded = analysed_by job (unwrap_or ring.inner []) forwarded
+abbrev pub analyse_work : Request → Ring → Forwarded → Work
+analyse_work job ring forwarded = analyse_master_work job (unwrap_or ring.inner []) forwarded
 
 -- with the job and the keys: the forward file
 abbrev pub analyse_keyed : Request → Reads → Ring → Step Work
-analyse_keyed job read ring = forward_file Analyse job read >>= λ forwarded. accepted (analysed job ring forwarded)
+analyse_keyed job read ring = forward_file Analyse job read >>= λ forwarded. accepted (analyse_work job ring forwarded)
 
 -- with the job: its keys
 abbrev pub analyse_asked : Reads → Request → Step Work

@@ -1,7 +1,7 @@
 pub mod Analyse
-pub mod Analysed
-pub mod Loading
-pub mod Loaded
+pub mod AnalyseTaken
+pub mod Database
+pub mod DatabaseTaken
 pub mod RowText
 pub mod Histogram
 pub mod Upgrade

@@ -9,12 +9,12 @@ use Rattle.esa_command.specs.Step.{Step, ◌>>=◌, accepted, Reads}
 use Rattle.esa_command.specs.Taking.{name_of}
 use Rattle.esa_command.specs.Work.{Work}
 use Rattle.esa_analysing.specs.Analyse.{database_work}
-use Rattle.esa_analysing.specs.Loading.{load_steps}
+use Rattle.esa_analysing.specs.Database.{database_input}
 
 -- the same rows are written in version 2
 abbrev pub upgrade_work : Request × Stored → Work
-upgrade_work loaded = database_work (name_of loaded.0 field.Output) Two loaded.1.database
+upgrade_work input = database_work (name_of input.0 field.Output) Two input.1.database
 
 -- upgrade: the job and its database file
 abbrev pub upgrade_steps : Bool → List ℕ → Reads → Step Work
-upgrade_steps crew_allowed name read = load_steps Upgrade crew_allowed name read >>= λ loaded. accepted (upgrade_work loaded)
+upgrade_steps crew_allowed name read = database_input Upgrade crew_allowed name read >>= λ input. accepted (upgrade_work input)

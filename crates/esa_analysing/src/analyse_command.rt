@@ -4,7 +4,7 @@ ghost use Rattle.std.specs.Prelude.{◌≡◌, IfOk};
 ghost use Rattle.esa_envelope.specs.declared.label.Label.TheVariants.{Inner};
 ghost use Rattle.esa_job.specs.Seen.{Needs};
 ghost use Rattle.esa_analysing.specs.Analyse.{analyse_steps, database_work, number_of, counted_by, AreWhole};
-ghost use Rattle.esa_analysing.specs.Analysed.{taken_work, counted_work};
+ghost use Rattle.esa_analysing.specs.AnalyseTaken.{analyse_taken, analyse_counted};
 ghost use Rattle.esa_command.specs.Ends.{Ends};
 ghost use Rattle.esa_command.specs.Judged.{Judged};
 ghost use Rattle.esa_command.specs.Settled.{Settles};
@@ -45,7 +45,7 @@ fn take_analyse<K: Cabinet>(
     crew_allowed: bool,
     name: &str,
 ) -> Result<AnalyseInput, Stop>
-    ensures judged { Judged 0 6 taken_work (analyse_steps crew_allowed name.now)
+    ensures judged { Judged 0 6 analyse_taken (analyse_steps crew_allowed name.now)
         (stand K.told K.faults K.heard cabinet.old) (stand K.told K.faults K.heard cabinet.new) result }
     ensures output { IfOk result (λ input. Needs input.job JobField.Output) }
     ensures whole { IfOk result (λ input. AreWhole input.forwarded) }
@@ -91,7 +91,7 @@ fn count_analyse<K: Cabinet>(
     crew_allowed: bool,
     name: &str,
 ) -> Result<AnalyseCount, Stop>
-    ensures judged { Judged 0 6 counted_work (analyse_steps crew_allowed name.now)
+    ensures judged { Judged 0 6 analyse_counted (analyse_steps crew_allowed name.now)
         (stand K.told K.faults K.heard cabinet.old) (stand K.told K.faults K.heard cabinet.new) result }
     ensures output { IfOk result (λ count. Needs count.job JobField.Output) }
 {

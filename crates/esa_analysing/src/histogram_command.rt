@@ -7,7 +7,7 @@ ghost use Rattle.esa_command.specs.Doing.{PrintsAll};
 ghost use Rattle.esa_command.specs.Ends.{Ends};
 ghost use Rattle.esa_command.specs.Stand.{stand};
 
-use crate::loading::load;
+use crate::database::take_job_and_database;
 use crate::row_line::RowLine;
 use esa_analyser::Db;
 use esa_command::{print_line, settle};
@@ -50,8 +50,8 @@ pub fn histogram<K: Cabinet, P: Printer>(
         (stand K.told K.faults K.heard cabinet.old) (stand K.told K.faults K.heard cabinet.new)
         (stand P.told P.faults P.heard printer.old) (stand P.told P.faults P.heard printer.new) result }
 {
-    match load(alloc, cabinet, Command::Histogram, crew_allowed, name) {
-        Ok(loaded) => settle(print_histogram(printer, &loaded.db)),
+    match take_job_and_database(alloc, cabinet, Command::Histogram, crew_allowed, name) {
+        Ok(input) => settle(Status::Ok, print_histogram(printer, &input.db)),
         Err(stop) => End::Stopped(Status::from(stop)),
     }
 }

@@ -3,17 +3,17 @@
 #![tactic(auto)]
 
 mod analyse_command;
+mod database;
 mod forwarding;
 mod histogram_command;
 mod lines;
-mod loading;
 mod recover_command;
 mod row_line;
 mod upgrade_command;
 
 pub use analyse_command::analyse;
+pub use database::take_database;
 pub use forwarding::take_forward;
 pub use histogram_command::histogram;
-pub use loading::take_database;
 pub use recover_command::recover;
 pub use upgrade_command::upgrade;

@@ -10,8 +10,8 @@ ghost use Rattle.esa_command.specs.Judged.{Judged};
 ghost use Rattle.esa_command.specs.Settled.{Settles};
 ghost use Rattle.esa_command.specs.Stand.{stand};
 
+use crate::database::{DatabaseInput, take_job_and_database};
 use crate::lines::counted_line;
-use crate::loading::{Loaded, load};
 use esa_command::settle_one;
 use esa_job::{Command, Job, JobField};
 use esa_outside::{Cabinet, Printer};
@@ -37,7 +37,13 @@ fn take_recover<K: Cabinet>(
         (stand K.told K.faults K.heard cabinet.old) (stand K.told K.faults K.heard cabinet.new) result }
     ensures output { IfOk result (λ input. Needs input.job JobField.Output) }
 {
-    let Loaded { job, db } = load(alloc, cabinet, Command::Recover, crew_allowed, name)?;
+    let DatabaseInput { job, db } = take_job_and_database(
+        alloc,
+        cabinet,
+        Command::Recover,
+        crew_allowed,
+        name,
+    )?;
     match Recovered::make(alloc, &db) {
         Ok(recovered) => Ok(RecoverInput { job, recovered }),
         Err(RecoverRefused::Sum) => Err(Stop::Refused(Refusal::SharesSum)),

@@ -8,8 +8,8 @@ ghost use Rattle.esa_command.specs.Ends.{Ends};
 ghost use Rattle.esa_command.specs.Settled.{Settles};
 ghost use Rattle.esa_command.specs.Stand.{stand};
 
+use crate::database::take_job_and_database;
 use crate::lines::counted_line;
-use crate::loading::load;
 use esa_analyser::{Db, write_db};
 use esa_command::settle_one;
 use esa_job::Command;
@@ -47,8 +47,8 @@ pub fn upgrade<K: Cabinet, P: Printer>(
         (stand K.told K.faults K.heard cabinet.old) (stand K.told K.faults K.heard cabinet.new)
         (stand P.told P.faults P.heard printer.old) (stand P.told P.faults P.heard printer.new) result }
 {
-    match load(alloc, cabinet, Command::Upgrade, crew_allowed, name) {
-        Ok(loaded) => work_upgrade(cabinet, printer, loaded.job.output(), &loaded.db),
+    match take_job_and_database(alloc, cabinet, Command::Upgrade, crew_allowed, name) {
+        Ok(input) => work_upgrade(cabinet, printer, input.job.output(), &input.db),
         Err(stop) => End::Stopped(Status::from(stop)),
     }
 }

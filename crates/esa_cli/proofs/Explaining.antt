@@ -14,7 +14,7 @@ use Rattle.esa_refusal.specs.declared.stop.Stop.{Stop}
 use Rattle.esa_refusal.specs.declared.stop.Stop.TheVariants.{Refused, Unread, OutOfMemory}
 use Rattle.esa_refusal.specs.Source.{role_of}
 use Rattle.esa_refusal.specs.Status.{status_of}
-use Rattle.esa_command.specs.Ends.{Ends, Works}
+use Rattle.esa_command.specs.Ends.{Ends}
 use Rattle.esa_command.specs.Judged.{IsMissing, StopsBy}
 use Rattle.esa_command.specs.Settled.{Went, whole, unwritten, unprinted, ending, Leaves, Counts}
 use Rattle.esa_command.specs.Stand.{Stand}
@@ -22,6 +22,7 @@ use Rattle.esa_command.specs.Step.{Step, accepted, refused, missing, Reads, read
 use Rattle.esa_command.specs.Telling.{status_in, Tells}
 use Rattle.esa_command.specs.Work.{Work}
 use Rattle.esa_command.proofs.Agreeing.{reads_by, agree_by}
+use Rattle.esa_command.proofs.Ending.{Does, does_asked}
 use Rattle.esa_cli.specs.Explains.{IsFault, Explains, IsExplained, IsComplete}
 use Rattle.esa_cli.specs.Plain.{steps_of, CallEnds}
 use Rattle.esa_cli.proofs.Steps.{steps_well}
@@ -43,7 +44,7 @@ went_not_usage unprinted is = cc
 
 module _ (call : Command × List ℕ) (cabinet cabinet_now : Stand Files) (printer middle : Stand (List ℕ)) (end : End) where
   -- the status that the work of a call ends with
-  work_ended : (done : Works (steps_of false call) cabinet cabinet_now printer middle end) → status_in end ≡ status_in (ending status.Ok done.settles.went)
+  work_ended : (done : Does (steps_of false call) cabinet cabinet_now printer middle end) → status_in end ≡ status_in (ending status.Ok done.settles.went)
   work_ended done =
       let read = reads_by done.judged.given in
       let is = (done.judged.answers read (agree_by 0 6 done.judged.given done.judged.once)).0 in
@@ -51,7 +52,9 @@ module _ (call : Command × List ℕ) (cabinet cabinet_now : Stand Files) (print
 
   not_usage : Ends (steps_of false call) cabinet cabinet_now printer middle end → status_in end ≡ status.Usage → ⊥
   not_usage (inl stopped) is = stop_not_usage stopped.stop (sym (ap status_in stopped.ended) ∙ is)
-  not_usage (inr done) is = went_not_usage done.settles.went (sym (work_ended done) ∙ is)
+  not_usage (inr acted) is =
+      let done = does_asked (steps_of false call) cabinet cabinet_now printer middle end acted in
+      went_not_usage done.settles.went (sym (work_ended done) ∙ is)
 
 none_not_some : {A : Type 0} (value : A) → Some value ≡ None → ⊥
 none_not_some value is = cc
@@ -76,11 +79,6 @@ module _ (steps : Reads → Step Work) (files : Files) (before now : ℕ) (left 
   lacks told source is (inl rose) = inl rose
   lacks told source is (inr gone) = inr (subst (λ held. steps (reads_of held) ≡ missing source) (same_files gone.0 files (sym gone.1 ∙ is)) gone.2)
 
-  stopped_for : (told : Option Files) (stop : Stop) → told ≡ Some files → StopsBy told steps 0 6 before now stop (reads_of files) → left ≡ Some files → Explains steps files before now left (status_of stop)
-  stopped_for told (Refused refusal) is by unchanged = (by.0, unchanged)
-  stopped_for told (Unread source) is by unchanged = unread source by.2 (lacks told source is by.3) unchanged
-  stopped_for told OutOfMemory is by unchanged = unchanged
-
   done_so : (work : Work) (went : Went) → steps (reads_of files) ≡ accepted work → Leaves work.writes files left went → Explains steps files before now left (status_in (ending status.Ok went))
   done_so work whole is leaves = (work, is, leaves)
   done_so work (unwritten sink.Output) is leaves = (work, is, leaves)
@@ -88,22 +86,32 @@ module _ (steps : Reads → Step Work) (files : Files) (before now : ℕ) (left 
   done_so work (unwritten sink.TurnsOut) is leaves = (work, is, leaves)
   done_so work unprinted is leaves = (work, is, leaves)
 
+module _ (steps : Reads → Step Work) (files : Files) (cabinet cabinet_now : Stand Files) (left : Option Files) (told : cabinet.told ≡ Some files) where
+  missing_of : (source : Source) → Rose cabinet.faults cabinet_now.faults ⊎ IsMissing cabinet.told steps source → Rose cabinet.faults cabinet_now.faults ⊎ (steps (reads_of files) ≡ missing source)
+  missing_of source why = lacks steps files cabinet.faults cabinet_now.faults left cabinet.told source told why
+
+  stopped_for : (stop : Stop) → StopsBy steps 0 6 cabinet cabinet_now stop (reads_of files) → left ≡ Some files → Explains steps files cabinet.faults cabinet_now.faults left (status_of stop)
+  stopped_for (Refused refusal) by unchanged = (by.0, unchanged)
+  stopped_for (Unread source) by unchanged = unread steps files cabinet.faults cabinet_now.faults left source by.2 (missing_of source by.3) unchanged
+  stopped_for OutOfMemory by unchanged = unchanged
+
   -- an accepted input isn't refused, and no file is missing
-  no_stop : (told : Option Files) (stop : Stop) (work : Work) → told ≡ Some files → StopsBy told steps 0 6 before now stop (reads_of files) → steps (reads_of files) ≡ accepted work → ¬ Rose before now → status_of stop ≡ status.OutOfMemory
-  no_stop told (Refused refusal) work is by accepts still = absurd (let never : refused refusal ≡ accepted work = sym by.0 ∙ accepts in cc)
-  no_stop told (Unread source) work is by accepts still = elim (lacks told source is by.3) [
+  no_stop : (stop : Stop) (work : Work) → StopsBy steps 0 6 cabinet cabinet_now stop (reads_of files) → steps (reads_of files) ≡ accepted work → ¬ Rose cabinet.faults cabinet_now.faults → status_of stop ≡ status.OutOfMemory
+  no_stop (Refused refusal) work by accepts still = absurd (let never : refused refusal ≡ accepted work = sym by.0 ∙ accepts in cc)
+  no_stop (Unread source) work by accepts still = elim (missing_of source by.3) [
     | inl rose ↦ absurd (still rose)
     | inr gone ↦ absurd (let never : missing source ≡ accepted work = sym gone ∙ accepts in cc)
   ]
-  no_stop told OutOfMemory work is by accepts still = refl
+  no_stop OutOfMemory work by accepts still = refl
 
 module _ (call : Command × List ℕ) (files : Files) (cabinet cabinet_now : Stand Files) (printer middle : Stand (List ℕ)) (end : End) (told : cabinet.told ≡ Some files) where
   explains : Ends (steps_of false call) cabinet cabinet_now printer middle end → Explains (steps_of false call) files cabinet.faults cabinet_now.faults cabinet_now.told (status_in end)
   explains (inl stopped) =
       let j = stopped.judged in
       subst (Explains (steps_of false call) files cabinet.faults cabinet_now.faults cabinet_now.told) (sym (ap status_in stopped.ended))
-      (stopped_for (steps_of false call) files cabinet.faults cabinet_now.faults cabinet_now.told cabinet.told stopped.stop told (j.answers (reads_of files) (j.tells files told)) (j.told ∙ told))
-  explains (inr done) =
+      (stopped_for (steps_of false call) files cabinet cabinet_now cabinet_now.told told stopped.stop (j.answers (reads_of files) (j.tells files told)) (j.told ∙ told))
+  explains (inr acted) =
+      let done = does_asked (steps_of false call) cabinet cabinet_now printer middle end acted in
       let j = done.judged in
       subst (Explains (steps_of false call) files cabinet.faults cabinet_now.faults cabinet_now.told) (sym (work_ended call cabinet cabinet_now printer middle end done))
       (done_so (steps_of false call) files cabinet.faults cabinet_now.faults cabinet_now.told done.work done.settles.went (j.answers (reads_of files) (j.tells files told)).0 (done.settles.files files (j.told ∙ told)))
@@ -117,8 +125,9 @@ module _ (call : Command × List ℕ) (files : Files) (cabinet cabinet_now : Sta
       → (status_in end ≡ status.Ok) ⊎ (status_in end ≡ status.OutOfMemory)
   completes printer_now work (inl stopped) tells accepts still printer_still =
       let j = stopped.judged in
-      inr (ap status_in stopped.ended ∙ no_stop (steps_of false call) files cabinet.faults cabinet_now.faults cabinet_now.told cabinet.told stopped.stop work told (j.answers (reads_of files) (j.tells files told)) accepts still)
-  completes printer_now work (inr done) tells accepts still printer_still =
+      inr (ap status_in stopped.ended ∙ no_stop (steps_of false call) files cabinet cabinet_now cabinet_now.told told stopped.stop work (j.answers (reads_of files) (j.tells files told)) accepts still)
+  completes printer_now work (inr acted) tells accepts still printer_still =
+      let done = does_asked (steps_of false call) cabinet cabinet_now printer middle end acted in
       let j = done.judged in
       let well = steps_well false call (reads_of files) done.work (j.answers (reads_of files) (j.tells files told)).0 in
       let quiet : done.settles.went ≡ unprinted → printer_now.faults ≡ middle.faults =

@@ -15,15 +15,15 @@ use Rattle.esa_command.specs.Taking.{job_file, keys_file}
 use Rattle.esa_command.specs.Work.{Work}
 use Rattle.esa_command.proofs.Composition.{judged_at_once}
 use Rattle.esa_command.proofs.Ending.{ends_stop}
-use Rattle.esa_encoding.specs.Encode.{has_shares, reports_file, encode_steps, encode_asked, encode_keyed, encoded_work}
-use Rattle.esa_encoding.specs.Generate.{generated_by}
-use Rattle.esa_shuffling.specs.Batch.{gather_steps, gathered_work}
-use Rattle.esa_shuffling.specs.Plan.{plan_steps, plan_asked, plan_turned, foretold}
+use Rattle.esa_encoding.specs.Encode.{has_shares, reports_file, encode_steps, encode_asked, encode_keyed, encode_sealed}
+use Rattle.esa_encoding.specs.Generate.{generate_asked}
+use Rattle.esa_shuffling.specs.Batch.{batch_input, batch_work}
+use Rattle.esa_shuffling.specs.Plan.{plan_steps, plan_asked, plan_turned, plan_drawn}
 use Rattle.esa_shuffling.specs.Shuffle.{turns_file, coins_file}
-use Rattle.esa_analysing.specs.Analyse.{forward_file, analyse_steps, analyse_asked, analyse_keyed, analysed}
+use Rattle.esa_analysing.specs.Analyse.{forward_file, analyse_steps, analyse_asked, analyse_keyed, analyse_work}
 use Rattle.esa_analysing.specs.Histogram.{histogram_work}
-use Rattle.esa_analysing.specs.Loading.{load_steps}
-use Rattle.esa_analysing.specs.Recover.{recovered_by, recover_work}
+use Rattle.esa_analysing.specs.Database.{database_input}
+use Rattle.esa_analysing.specs.Recover.{recover_asked, recover_work}
 use Rattle.esa_analysing.specs.Upgrade.{upgrade_work}
 use Rattle.esa_cli.specs.Plain.{is_built, steps_of}
 
@@ -47,34 +47,34 @@ unfolding encode_steps
 encode_well crew name read work is =
     well_then (job_file command.Encode crew name read) (encode_asked read) work
     (λ job. well_then (keys_file command.Encode (has_shares job) job read) (encode_keyed job read) work
-    (λ ring. well_then (reports_file job ring read) (encoded_work job) work (λ made. well_made _ work refl))) is
+    (λ ring. well_then (reports_file job ring read) (encode_sealed job) work (λ made. well_made _ work refl))) is
 
 analyse_well : (crew : Bool) (name : List ℕ) (read : Reads) (work : Work) → analyse_steps crew name read ≡ accepted work → work.ended ≡ status.Ok
 unfolding analyse_steps
 analyse_well crew name read work is =
     well_then (job_file command.Analyse crew name read) (analyse_asked read) work
     (λ job. well_then (keys_file command.Analyse false job read) (analyse_keyed job read) work
-    (λ ring. well_then (forward_file command.Analyse job read) (λ forwarded. accepted (analysed job ring forwarded)) work (λ made. well_made _ work refl))) is
+    (λ ring. well_then (forward_file command.Analyse job read) (λ forwarded. accepted (analyse_work job ring forwarded)) work (λ made. well_made _ work refl))) is
 
 plan_well : (crew : Bool) (name : List ℕ) (read : Reads) (work : Work) → plan_steps crew name read ≡ accepted work → work.ended ≡ status.Ok
 unfolding plan_steps
 plan_well crew name read work is =
     well_then (job_file command.Plan crew name read) (plan_asked read) work
     (λ job. well_then (turns_file command.Plan job read) (plan_turned job read) work
-    (λ turns. well_then (coins_file command.Plan job read) (foretold job turns) work (λ draws. well_made _ work refl))) is
+    (λ turns. well_then (coins_file command.Plan job read) (plan_drawn job turns) work (λ draws. well_made _ work refl))) is
 
 pub steps_well : (crew : Bool) (call : Command × List ℕ) (read : Reads) (work : Work) → steps_of crew call read ≡ accepted work → work.ended ≡ status.Ok
-steps_well crew (command.Gen, name) read work is = well_then (job_file command.Gen crew name read) (λ job. accepted (generated_by job)) work (λ job. well_made _ work refl) is
+steps_well crew (command.Gen, name) read work is = well_then (job_file command.Gen crew name read) (λ job. accepted (generate_asked job)) work (λ job. well_made _ work refl) is
 steps_well crew (command.Encode, name) read work is = encode_well crew name read work is
-steps_well crew (command.Batch, name) read work is = well_then (gather_steps crew name read) (λ all. accepted (gathered_work all)) work (λ all. well_made _ work refl) is
+steps_well crew (command.Batch, name) read work is = well_then (batch_input crew name read) (λ all. accepted (batch_work all)) work (λ all. well_made _ work refl) is
 steps_well crew (command.Intake, name) read work is = cc
 steps_well crew (command.Shuffle, name) read work is = cc
 steps_well crew (command.Run, name) read work is = cc
 steps_well crew (command.Relay, name) read work is = cc
 steps_well crew (command.Analyse, name) read work is = analyse_well crew name read work is
-steps_well crew (command.Histogram, name) read work is = well_then (load_steps command.Histogram crew name read) (λ all. accepted (histogram_work all)) work (λ all. well_made _ work refl) is
-steps_well crew (command.Upgrade, name) read work is = well_then (load_steps command.Upgrade crew name read) (λ all. accepted (upgrade_work all)) work (λ all. well_made _ work refl) is
-steps_well crew (command.Recover, name) read work is = well_then (load_steps command.Recover crew name read) recovered_by work (λ all. well_unless _ SharesSum (recover_work all) work refl) is
+steps_well crew (command.Histogram, name) read work is = well_then (database_input command.Histogram crew name read) (λ all. accepted (histogram_work all)) work (λ all. well_made _ work refl) is
+steps_well crew (command.Upgrade, name) read work is = well_then (database_input command.Upgrade crew name read) (λ all. accepted (upgrade_work all)) work (λ all. well_made _ work refl) is
+steps_well crew (command.Recover, name) read work is = well_then (database_input command.Recover crew name read) recover_asked work (λ all. well_unless _ SharesSum (recover_work all) work refl) is
 steps_well crew (command.Plan, name) read work is = plan_well crew name read work is
 steps_well crew (command.Audit, name) read work is = cc
 

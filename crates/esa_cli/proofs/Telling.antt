@@ -17,7 +17,7 @@ use Rattle.esa_refusal.specs.declared.stop.Stop.{Stop}
 use Rattle.esa_refusal.specs.declared.stop.Stop.TheVariants.{Refused, Unread, OutOfMemory}
 use Rattle.esa_refusal.specs.Source.{role_of, role_of_sink}
 use Rattle.esa_refusal.specs.Status.{status_of, status_text}
-use Rattle.esa_command.specs.Ends.{Ends, Works}
+use Rattle.esa_command.specs.Ends.{Ends}
 use Rattle.esa_command.specs.Judged.{IsMissing, StopsBy}
 use Rattle.esa_command.specs.Settled.{Went, whole, unwritten, unprinted, ending, Counts, Prints}
 use Rattle.esa_command.specs.Stand.{Stand}
@@ -25,6 +25,7 @@ use Rattle.esa_command.specs.Step.{Step, accepted, Reads, reads_of}
 use Rattle.esa_command.specs.Telling.{status_in, Tells, TellsLine}
 use Rattle.esa_command.specs.Work.{Work}
 use Rattle.esa_command.proofs.Agreeing.{reads_by, agree_by}
+use Rattle.esa_command.proofs.Ending.{Does, does_asked}
 use Rattle.esa_cli.specs.Explains.{FaultCounted, EndCounted, IsOwed, ShowsLine, Shows, IsPrinted}
 use Rattle.esa_cli.specs.Plain.{steps_of, CallEnds}
 use Rattle.esa_cli.proofs.Steps.{steps_well}
@@ -50,11 +51,6 @@ module _ (told : Option Files) (before now printer_before printer : ℕ) where
   some_missing steps source (inl rose) = inl rose
   some_missing steps source (inr gone) = inr (told_some told gone.0 gone.1)
 
-  stop_counted : (steps : Reads → Step Work) (read : Reads) (stop : Stop) → StopsBy told steps 0 6 before now stop read → EndCounted told before now printer_before printer (status_of stop)
-  stop_counted steps read (Refused refusal) by = (by.1, by.2)
-  stop_counted steps read (Unread source) by = unread_counted source (some_missing steps source by.3)
-  stop_counted steps read OutOfMemory by = by
-
   went_counted : (middle printer_middle : ℕ) (went : Went) → middle ≡ before → Counts middle now printer_before printer_middle went → (went ≡ whole → printer ≡ printer_middle) → (went ≡ unprinted → printer ≡ printer_middle)
       → EndCounted told before now printer_before printer (status_in (ending status.Ok went))
   went_counted middle printer_middle whole kept counts quiet quiet_too = (counts.0 ∙ kept, quiet refl ∙ counts.1)
@@ -63,9 +59,16 @@ module _ (told : Option Files) (before now printer_before printer : ℕ) where
   went_counted middle printer_middle (unwritten sink.TurnsOut) kept counts quiet quiet_too = subst (λ n. Rose n now) kept counts.0
   went_counted middle printer_middle unprinted kept counts quiet quiet_too = (counts.0 ∙ kept, subst (λ n. Rose printer_before n) (sym (quiet_too refl)) counts.1)
 
+module _ (cabinet cabinet_now : Stand Files) (printer_before printer : ℕ) where
+  stop_counted : (steps : Reads → Step Work) (read : Reads) (stop : Stop) → StopsBy steps 0 6 cabinet cabinet_now stop read → EndCounted cabinet.told cabinet.faults cabinet_now.faults printer_before printer (status_of stop)
+  stop_counted steps read (Refused refusal) by = (by.1, by.2)
+  stop_counted steps read (Unread source) by =
+      unread_counted cabinet.told cabinet.faults cabinet_now.faults printer_before printer source (some_missing cabinet.told cabinet.faults cabinet_now.faults printer_before printer steps source by.3)
+  stop_counted steps read OutOfMemory by = by
+
 module _ (call : Command × List ℕ) (cabinet cabinet_now : Stand Files) (printer middle printer_now : Stand (List ℕ)) (end : End) (tells : Tells end middle printer_now) where
   -- how the work of a call ended
-  done_as : (done : Works (steps_of false call) cabinet cabinet_now printer middle end) → end ≡ ending status.Ok done.settles.went
+  done_as : (done : Does (steps_of false call) cabinet cabinet_now printer middle end) → end ≡ ending status.Ok done.settles.went
   done_as done =
       let read = reads_by done.judged.given in
       let is = (done.judged.answers read (agree_by 0 6 done.judged.given done.judged.once)).0 in
@@ -76,8 +79,9 @@ module _ (call : Command × List ℕ) (cabinet cabinet_now : Stand Files) (print
       let j = stopped.judged in
       let read = reads_by j.given in
       subst (EndCounted cabinet.told cabinet.faults cabinet_now.faults printer.faults printer_now.faults) (sym (ap status_in stopped.ended))
-      (stop_counted cabinet.told cabinet.faults cabinet_now.faults printer.faults printer_now.faults (steps_of false call) read stopped.stop (j.answers read (agree_by 0 6 j.given j.once)))
-  counted (inr done) =
+      (stop_counted cabinet cabinet_now printer.faults printer_now.faults (steps_of false call) read stopped.stop (j.answers read (agree_by 0 6 j.given j.once)))
+  counted (inr acted) =
+      let done = does_asked (steps_of false call) cabinet cabinet_now printer middle end acted in
       let j = done.judged in
       let read = reads_by j.given in
       let quiet : (went : Went) → (went ≡ whole) ⊎ (went ≡ unprinted) → done.settles.went ≡ went → printer_now.faults ≡ middle.faults =
@@ -96,7 +100,7 @@ module _ (call : Command × List ℕ) (cabinet cabinet_now : Stand Files) (print
       let line : TellsLine (status_text status) middle printer_now = subst (λ e. Tells e middle printer_now) is tells in
       record { front = line.front text told; all = λ still. line.whole text told (subst (λ n. ¬ Rose n printer_now.faults) (sym kept) still) }
 
-  owed : (done : Works (steps_of false call) cabinet cabinet_now printer middle end) → IsOwed (steps_of false call) cabinet.told done.work.prints
+  owed : (done : Does (steps_of false call) cabinet cabinet_now printer middle end) → IsOwed (steps_of false call) cabinet.told done.work.prints
   owed done files work told accepts =
       let j = done.judged in
       ap (λ w. w.prints) (same_work done.work work (sym (j.answers (reads_of files) (j.tells files told)).0 ∙ accepts))
@@ -127,7 +131,8 @@ module _ (call : Command × List ℕ) (cabinet cabinet_now : Stand Files) (print
   shows (inl stopped) text told =
       subst (Shows (steps_of false call) cabinet.told printer.faults printer_now.faults text printer_now.told) (sym (ap status_in stopped.ended))
       (stop_shows stopped.stop stopped.ended text (ap (λ p. p.told) stopped.printer_stands ∙ told) (ap (λ p. p.faults) stopped.printer_stands))
-  shows (inr done) text told =
+  shows (inr acted) text told =
+      let done = does_asked (steps_of false call) cabinet cabinet_now printer middle end acted in
       let kept : (sink : Sink) → done.settles.went ≡ unwritten sink → middle.faults ≡ printer.faults =
       λ sink is. (subst (Counts done.middle.faults cabinet_now.faults printer.faults middle.faults) is done.settles.counts).1 in
       subst (Shows (steps_of false call) cabinet.told printer.faults printer_now.faults text printer_now.told) (sym (ap status_in (done_as done)))
@@ -137,11 +142,15 @@ module _ (call : Command × List ℕ) (cabinet cabinet_now : Stand Files) (print
 
   silent : Ends (steps_of false call) cabinet cabinet_now printer middle end → cabinet.told ≡ None → cabinet_now.told ≡ None
   silent (inl stopped) none = stopped.judged.told ∙ none
-  silent (inr done) none = done.settles.silent (done.judged.told ∙ none)
+  silent (inr acted) none =
+      let done = does_asked (steps_of false call) cabinet cabinet_now printer middle end acted in
+      done.settles.silent (done.judged.told ∙ none)
 
   middle_silent : Ends (steps_of false call) cabinet cabinet_now printer middle end → printer.told ≡ None → middle.told ≡ None
   middle_silent (inl stopped) none = ap (λ p. p.told) stopped.printer_stands ∙ none
-  middle_silent (inr done) none = done.settles.printer_silent none
+  middle_silent (inr acted) none =
+      let done = does_asked (steps_of false call) cabinet cabinet_now printer middle end acted in
+      done.settles.printer_silent none
 
 tells_silent : (end : End) (middle printer_now : Stand (List ℕ)) → Tells end middle printer_now → middle.told ≡ None → printer_now.told ≡ None
 tells_silent (Stopped status) middle printer_now tells none = tells.silent none

@@ -1,22 +1,23 @@
 -- There are files that agree with what a cabinet gave, since each role is read once.
-use Rattle.std.proofs.Common.{◌≡◌, ℕ, ◌+◌, ◌≤◌, false, cond, List, [], ◌∷◌, replicate, Option, Some, None, refl, sym, ap, subst, arith}
+use Rattle.std.proofs.Common.{◌≡◌, ℕ, ◌+◌, ◌≤◌, false, cond, List, [], ◌∷◌, ◌++◌, replicate, Option, Some, None, refl, sym, ap, subst, arith}
 use Rattle.std.proofs.lemmas.List.{length-replicate}
+use Rattle.std.specs.List.{concat}
 use Rattle.esa_refusal.specs.declared.source.Source.{Source}
 use Rattle.esa_refusal.specs.Source.{place_of, is_same_source}
-use Rattle.esa_command.specs.Given.{Gave, Given, whole, long, begun, nothing, Agrees, AllAgree, AreInOrder}
+use Rattle.esa_command.specs.Given.{Gave, Given, whole, front, begun, nothing, Agrees, AllAgree, AreInOrder}
 use Rattle.esa_command.specs.Step.{Reads}
-use Rattle.esa_command.proofs.WholeFiles.{is_same}
+use Rattle.esa_command.proofs.OneFile.{is_same}
 
 abbrev held : Gave → Option (List ℕ)
 held (whole bytes) = Some bytes
-held (long n) = Some (replicate n 0)
-held (begun n) = None
+held (front pieces behind) = Some (concat pieces ++ replicate behind 0)
+held (begun n pieces) = None
 held nothing = None
 
 held-agrees : (gave : Gave) → Agrees (held gave) gave
 held-agrees (whole bytes) = refl
-held-agrees (long n) = ap Some (length-replicate n 0)
-held-agrees (begun n) = tt
+held-agrees (front pieces behind) = (replicate behind 0, refl, length-replicate behind 0)
+held-agrees (begun n pieces) = tt
 held-agrees nothing = tt
 
 -- what was given for a role is what is read for it

@@ -64,7 +64,7 @@ agree-without read gone first last (given ∷ rest) order behind agree = (
 
 module _ {X Y A B : Type 0} (first middle between last : ℕ) (one : X → A) (two : Y → B) (steps : Reads → Step A) (next : Reads → A → Step B) (before now : Stand Files) where
   -- the first stops
-  stops : (stop : Stop) (read : Reads) → between ≤ last → StopsBy before.told steps first between before.faults now.faults stop read → StopsBy before.told (λ r. steps r >>= next r) first last before.faults now.faults stop read
+  stops : (stop : Stop) (read : Reads) → between ≤ last → StopsBy steps first between before now stop read → StopsBy (λ r. steps r >>= next r) first last before now stop read
   stops (Refused refusal) read below answer = (ap (λ step. step >>= next read) answer.0, answer.1, answer.2)
   stops (Unread source) read below answer = (
     answer.0,
@@ -97,8 +97,8 @@ module _ {X Y A B : Type 0} (first middle between last : ℕ) (one : X → A) (t
   lacks : (source : Source) → IsMissing then.told (λ read. next read (one value)) source → IsMissing before.told (λ read. steps read >>= next read) source
   lacks source gone = (gone.0, sym j.told ∙ gone.1, on (reads_of gone.0) (j.tells gone.0 (sym j.told ∙ gone.1)) ∙ gone.2)
 
-  stops_later : (stop : Stop) (read : Reads) → AllAgree read j.given → StopsBy then.told (λ r. next r (one value)) between last then.faults now.faults stop read
-      → StopsBy before.told (λ r. steps r >>= next r) first last before.faults now.faults stop read
+  stops_later : (stop : Stop) (read : Reads) → AllAgree read j.given → StopsBy (λ r. next r (one value)) between last then now stop read
+      → StopsBy (λ r. steps r >>= next r) first last before now stop read
   stops_later (Refused refusal) read agree answer = (on read agree ∙ answer.0, answer.1 ∙ (j.answers read agree).1, answer.2)
   stops_later (Unread source) read agree answer =
       let behind : middle ≤ place_of source = omega (arith, mid, answer.0) in (
@@ -112,8 +112,8 @@ module _ {X Y A B : Type 0} (first middle between last : ℕ) (one : X → A) (t
       )
   stops_later OutOfMemory read agree answer = answer ∙ (j.answers read agree).1
 
-  answer : (result : Result Y Stop) (read : Reads) → AllAgree read j.given → AnswersBy then.told two (λ r. next r (one value)) between last then.faults now.faults result read
-      → AnswersBy before.told two (λ r. steps r >>= next r) first last before.faults now.faults result read
+  answer : (result : Result Y Stop) (read : Reads) → AllAgree read j.given → AnswersBy two (λ r. next r (one value)) between last then now result read
+      → AnswersBy two (λ r. steps r >>= next r) first last before now result read
   answer (Ok done) read agree is = (on read agree ∙ is.0, is.1 ∙ (j.answers read agree).1)
   answer (Err stop) read agree is = stops_later stop read agree is
 
@@ -180,10 +180,10 @@ judged_at_once first last view steps before refusal order is input = record {
 -- the bound of the roles may be a later one
 pub judged_wider : {X A : Type 0} (first last end : ℕ) (view : X → A) (steps : Reads → Step A) (before now : Stand Files) (result : Result X Stop) → last ≤ end → Judged first last view steps before now result → Judged first end view steps before now result
 judged_wider {X} first last end view steps before now result below j =
-    let wider : (result : Result X Stop) (read : Reads) → AnswersBy before.told view steps first last before.faults now.faults result read → AnswersBy before.told view steps first end before.faults now.faults result read =
-    λ result read. elim result as (λ result. AnswersBy before.told view steps first last before.faults now.faults result read → AnswersBy before.told view steps first end before.faults now.faults result read) [
+    let wider : (result : Result X Stop) (read : Reads) → AnswersBy view steps first last before now result read → AnswersBy view steps first end before now result read =
+    λ result read. elim result as (λ result. AnswersBy view steps first last before now result read → AnswersBy view steps first end before now result read) [
       | Ok value ↦ λ a. a
-      | Err stop ↦ elim stop as (λ stop. AnswersBy before.told view steps first last before.faults now.faults (Err stop) read → AnswersBy before.told view steps first end before.faults now.faults (Err stop) read) [
+      | Err stop ↦ elim stop as (λ stop. AnswersBy view steps first last before now (Err stop) read → AnswersBy view steps first end before now (Err stop) read) [
         | Refused refusal ↦ λ a. a
         | Unread source ↦ λ a. (a.0, omega (arith, a.1, below), a.2, a.3)
         | OutOfMemory ↦ λ a. a

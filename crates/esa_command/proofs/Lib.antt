@@ -1,8 +1,11 @@
+pub mod OneFile
 pub mod Composition
 pub mod WholeFiles
 pub mod Readers
 pub mod Settling
+pub mod Written
 pub mod Printing
+pub mod VerdictTexts
 pub mod Agreeing
 pub mod Lines
 pub mod Ending

@@ -81,12 +81,12 @@ module _ (lines : List (List ℕ)) (i : ℕ) (line : List ℕ) (below : i < leng
 pub printed_end : (lines : List (List ℕ)) (i : ℕ) (before now : Stand (List ℕ)) → length lines ≤ i → ArePrinted (take i lines) before now → ArePrinted lines before now
 printed_end lines i before now past so_far = subst (λ ls. ArePrinted ls before now) (take_all i lines past) so_far
 
--- ---- lines and one more behind them
+-- ---- lines and others behind them
 
-module _ {T E : Type 0} (before middle now : Stand (List ℕ)) (lines : List (List ℕ)) (last : List ℕ) where
-  pub prints_last : (result : Result T E) → ArePrinted lines before middle → PrintsAll (last ∷ []) middle now result → PrintsAll (lines ++ last ∷ []) before now result
-  prints_last (Ok done) so_far next = printed_then before middle now lines (last ∷ []) so_far next
-  prints_last (Err why) so_far next = subst (λ ls. AreCut ls before now) (append-nil (lines ++ last ∷ [])) (cut_then before middle now lines (last ∷ []) so_far [] next)
+module _ {T E : Type 0} (before middle now : Stand (List ℕ)) (lines more : List (List ℕ)) where
+  pub prints_then : (result : Result T E) → ArePrinted lines before middle → PrintsAll more middle now result → PrintsAll (lines ++ more) before now result
+  prints_then (Ok done) so_far next = printed_then before middle now lines more so_far next
+  prints_then (Err why) so_far next = subst (λ ls. AreCut ls before now) (append-nil (lines ++ more)) (cut_then before middle now lines more so_far [] next)
 
 -- lines that aren't all printed, before others
 pub cut_before : (before now : Stand (List ℕ)) (lines more : List (List ℕ)) → AreCut lines before now → AreCut (lines ++ more) before now

@@ -6,16 +6,12 @@ use Rattle.esa_lists.specs.Files.{Files}
 use Rattle.esa_outside.specs.Cause.{HasCause}
 use Rattle.esa_outside.specs.Heard.{printed, after}
 use Rattle.esa_outside.specs.Told.{HoldsFront, AddsFront, line_of}
-use Rattle.esa_outside.specs.declared.Role.TheVariants as role
 use Rattle.esa_page.specs.Underway.{IsWhole, IsLeft}
 use Rattle.esa_page.specs.Writing.{HasWritten, HasBroken}
 use Rattle.esa_page.proofs.WritingLaws.{OnOk-whole, OnErr-left, silent-still}
 use Rattle.esa_refusal.specs.declared.source.Sink.{Sink}
-use Rattle.esa_refusal.specs.declared.status.End.TheVariants.{Stopped, Settled as AllSettled}
-use Rattle.esa_refusal.specs.declared.status.Status.TheVariants as status
-use Rattle.esa_refusal.specs.Source.{role_of_sink}
 use Rattle.esa_command.specs.Doing.{AreWritten, AreBroken, ArePrinted, AreCut, WritesIt, PrintsAll}
-use Rattle.esa_command.specs.Settled.{Settles, whole, unwritten, unprinted, unwritten_as, unprinted_as}
+use Rattle.esa_command.specs.Settled.{Settles, whole, unwritten, unprinted, ending}
 use Rattle.esa_command.specs.Stand.{Stand}
 use Rattle.esa_command.specs.Work.{Write, Work}
 
@@ -23,13 +19,13 @@ surely : {R : Type 0} → R ⊎ ⊥ → R
 surely (inl rose) = rose
 surely (inr never) = absurd never
 
--- ---- how work ends that is to end well
+-- ---- how work ends, by its status and how far it went
 
-module _ (work : Work) (cabinet cabinet_now : Stand Files) (printer printer_now : Stand (List ℕ)) (well : work.ended ≡ status.Ok) where
-  pub settled_whole : AreWritten work.writes cabinet cabinet_now → ArePrinted work.prints printer printer_now → Settles work cabinet cabinet_now printer printer_now (AllSettled status.Ok)
+module _ (work : Work) (cabinet cabinet_now : Stand Files) (printer printer_now : Stand (List ℕ)) where
+  pub settled_whole : AreWritten work.writes cabinet cabinet_now → ArePrinted work.prints printer printer_now → Settles work cabinet cabinet_now printer printer_now (ending work.ended whole)
   settled_whole files lines = record {
     went = whole;
-    ended = ap (λ ended. AllSettled ended) (sym well);
+    ended = refl;
     counts = (files.kept, lines.kept);
     files = files.told;
     prints = lines.told;
@@ -39,10 +35,10 @@ module _ (work : Work) (cabinet cabinet_now : Stand Files) (printer printer_now 
     printer_silent = lines.silent;
   }
 
-  pub settled_unprinted : AreWritten work.writes cabinet cabinet_now → AreCut work.prints printer printer_now → Settles work cabinet cabinet_now printer printer_now (AllSettled (status.OutsideFault role.Printer))
+  pub settled_unprinted : AreWritten work.writes cabinet cabinet_now → AreCut work.prints printer printer_now → Settles work cabinet cabinet_now printer printer_now (ending work.ended unprinted)
   settled_unprinted files lines = record {
     went = unprinted;
-    ended = ap unprinted_as (sym well);
+    ended = refl;
     counts = (files.kept, lines.rose);
     files = files.told;
     prints = lines.told;
@@ -52,10 +48,10 @@ module _ (work : Work) (cabinet cabinet_now : Stand Files) (printer printer_now 
     printer_silent = lines.silent;
   }
 
-  pub settled_unwritten : (sink : Sink) → AreBroken sink work.writes cabinet cabinet_now → printer_now ≡ printer → Settles work cabinet cabinet_now printer printer_now (Stopped (status.OutsideFault (role_of_sink sink)))
+  pub settled_unwritten : (sink : Sink) → AreBroken sink work.writes cabinet cabinet_now → printer_now ≡ printer → Settles work cabinet cabinet_now printer printer_now (ending work.ended (unwritten sink))
   settled_unwritten sink files same = record {
     went = unwritten sink;
-    ended = ap (unwritten_as sink) (sym well);
+    ended = refl;
     counts = (files.rose, ap (λ p. p.faults) same);
     files = files.told;
     prints = λ text told. ap (λ p. p.told) same ∙ told;

@@ -12,66 +12,46 @@ use Rattle.esa_outside.specs.Whole.{HasHeard}
 use Rattle.esa_outside.specs.declared.whole.ReadRefused.TheVariants as read_refused
 use Rattle.esa_refusal.specs.declared.refusal.Refusal.TheVariants.{Large}
 use Rattle.esa_refusal.specs.declared.source.Source.{Source}
-use Rattle.esa_refusal.specs.declared.source.Source.TheVariants as source
 use Rattle.esa_refusal.specs.declared.stop.Stop.{Stop}
 use Rattle.esa_refusal.specs.declared.stop.Stop.TheVariants.{Refused, Unread, OutOfMemory}
-use Rattle.esa_refusal.specs.Source.{role_of, limit_of, place_of, is_same_source}
-use Rattle.esa_command.specs.Given.{Gave, Given, whole, long, begun, nothing, heard_of, Agrees, AreInOrder}
-use Rattle.esa_command.specs.Judged.{IsMissing, AnswersBy, Judged}
+use Rattle.esa_refusal.specs.Source.{role_of, limit_of, place_of}
+use Rattle.esa_command.specs.Given.{whole, front, begun, nothing, Agrees}
+use Rattle.esa_command.specs.Judged.{IsMissing, Judged}
 use Rattle.esa_command.specs.Stand.{Stand}
-use Rattle.esa_command.specs.Step.{accepted, refused, missing, Reads, without, within, file}
-
-pub is_same : (s : Source) → is_same_source s s ≡ true
-is_same source.Job = refl
-is_same source.Keys = refl
-is_same source.Drops = refl
-is_same source.Turns = refl
-is_same source.Input = refl
-is_same source.Coins = refl
+use Rattle.esa_command.specs.Step.{Step, accepted, refused, within, file}
+use Rattle.esa_command.proofs.OneFile.{judged_one, judged_gone}
 
 within-short : (limit : ℕ) (s : Source) (held : Option (List ℕ)) (bytes : List ℕ) → held ≡ Some bytes → length bytes ≤ limit → within limit s held ≡ accepted bytes
 within-short limit s held bytes is short =
     let small : nat_lt limit (length bytes) ≡ false = grind (arith, short) in
     ap (within limit s) is ∙ ap (λ large. cond large (refused (Large (role_of s))) (accepted bytes)) small
 
-within-long : (limit n : ℕ) (s : Source) (held : Option (List ℕ)) → option_map length held ≡ Some n → limit < n → within limit s held ≡ refused (Large (role_of s))
-within-long limit n s None is past = cc
-within-long limit n s (Some bytes) is past =
-    let same : length bytes ≡ n = cc in
-    let large : nat_lt limit (length bytes) ≡ true = grind (arith, past, same) in
-    ap (λ large. cond large (refused (Large (role_of s))) (accepted bytes)) large
+within-long : (limit n : ℕ) (s : Source) (held : Option (List ℕ)) → Agrees held (front [] n) → limit < n → within limit s held ≡ refused (Large (role_of s))
+within-long limit n s held agree past =
+    let large : nat_lt limit (length agree.0) ≡ true = grind (arith, past, agree.2) in
+    ap (within limit s) agree.1 ∙ ap (λ large. cond large (refused (Large (role_of s))) (accepted agree.0)) large
+
+length-agrees : (held : Option (List ℕ)) (n : ℕ) → option_map length held ≡ Some n → Agrees held (front [] n)
+length-agrees None n is = cc
+length-agrees (Some bytes) n is = (bytes, refl, cc)
 
 module _ {X : Type 0} (items : X → List ℕ) (command : Command) (s : Source) (name : List ℕ) (before now : Stand Files) (still : now.told ≡ before.told) where
-  abbrev one : Gave → List Given
-  one gave = record { source = s; name = name; gave = gave } ∷ []
-
-  in-order : (gave : Gave) → AreInOrder (place_of s) (place_of s + 1) (one gave)
-  in-order gave = (omega arith, omega arith)
-
-  made : (gave : Gave) (result : Result X Stop) → now.heard ≡ before.heard ++ heard_of name gave → ((files : Files) → before.told ≡ Some files → Agrees (map.get files name) gave)
-      → ((read : Reads) → Agrees (read s name) gave → AnswersBy before.told items (file command s name) (place_of s) (place_of s + 1) before.faults now.faults result read)
-      → Judged (place_of s) (place_of s + 1) items (file command s name) before now result
-  made gave result heard tells answers = record {
-    given = one gave;
-    heard = heard ∙ ap (λ ys. before.heard ++ ys) (sym (append-nil (heard_of name gave)));
-    once = in-order gave;
-    tells = λ files told. (tells files told, tt);
-    answers = λ read agree. answers read agree.0;
-    told = still;
-  }
+  abbrev step : Option (List ℕ) → Step (List ℕ)
+  step = within (limit_of command s) s
 
   pub read_ok : (value : X) → ((files : Files) → before.told ≡ Some files → map.get files name ≡ Some (items value)) → length (items value) ≤ limit_of command s
       → now.heard ≡ before.heard ++ length_of name (length (items value)) ∷ part_of name 0 (items value) ∷ [] → now.faults ≡ before.faults
       → Judged (place_of s) (place_of s + 1) items (file command s name) before now (Ok value)
-  read_ok value tells short heard kept = made (whole (items value)) (Ok value) heard tells (λ read agree. (within-short (limit_of command s) s (read s name) (items value) agree short, kept))
+  read_ok value tells short heard kept =
+      judged_one items s name step before now still (whole (items value)) (Ok value) heard tells (λ read agree. (within-short (limit_of command s) s (read s name) (items value) agree short, kept))
 
   pub read_long : (n : ℕ) → ((files : Files) → before.told ≡ Some files → option_map length (map.get files name) ≡ Some n) → limit_of command s < n
       → now.heard ≡ before.heard ++ length_of name n ∷ [] → now.faults ≡ before.faults
       → Judged (place_of s) (place_of s + 1) items (file command s name) before now (Err (Refused (Large (role_of s))))
-  read_long n tells past heard kept = made (long n) (Err (Refused (Large (role_of s)))) heard tells (λ read agree. (within-long (limit_of command s) n s (read s name) agree past, kept, tt))
-
-  gone : (read : Reads) → file command s name (without s read) ≡ missing s
-  gone read = ap (λ same. within (limit_of command s) s (cond same None (read s name))) (is_same s)
+  read_long n tells past heard kept =
+      let long : n ≡ 0 + n = omega arith in
+      judged_one items s name step before now still (front [] n) (Err (Refused (Large (role_of s)))) (heard ∙ ap (λ m. before.heard ++ length_of name m ∷ []) long) (λ files told. length-agrees (map.get files name) n (tells files told))
+      (λ read agree. (within-long (limit_of command s) n s (read s name) agree past, kept, tt))
 
   lacking : (told : Option Files) → Lacks told name 0 → IsMissing told (file command s name) s
   lacking None lacks = absurd lacks
@@ -85,13 +65,11 @@ module _ {X : Type 0} (items : X → List ℕ) (command : Command) (s : Source) 
       → Judged (place_of s) (place_of s + 1) items (file command s name) before now (Err (Unread s))
   read_failed limit heard cause =
       let because : Rose before.faults now.faults ⊎ IsMissing before.told (file command s name) s = elim cause [ inl rose ↦ inl rose | inr lacks ↦ inr (lacking before.told lacks) ] in
-      let answers : (read : Reads) → AnswersBy before.told items (file command s name) (place_of s) (place_of s + 1) before.faults now.faults (Err (Unread s)) read =
-      λ read. (omega arith, omega arith, gone read, because) in
       elim heard [
-        | inl same ↦ made nothing (Err (Unread s)) (same ∙ sym (append-nil before.heard)) (λ files told. tt) (λ read agree. answers read)
-        | inr length_heard ↦ made (begun length_heard.0) (Err (Unread s)) length_heard.2 (λ files told. tt) (λ read agree. answers read)
+        | inl same ↦ judged_gone items s name step before now still refl nothing (same ∙ sym (append-nil before.heard)) (λ files told. tt) because
+        | inr begins ↦ judged_gone items s name step before now still refl (begun begins.0 []) begins.2 (λ files told. tt) because
       ]
 
   pub read_starved : (limit : ℕ) → HasHeard before.heard name limit now.heard read_refused.OutOfMemory → now.faults ≡ before.faults
       → Judged (place_of s) (place_of s + 1) items (file command s name) before now (Err OutOfMemory)
-  read_starved limit heard kept = made (begun heard.0) (Err OutOfMemory) heard.2 (λ files told. tt) (λ read agree. kept)
+  read_starved limit heard kept = judged_one items s name step before now still (begun heard.0 []) (Err OutOfMemory) heard.2 (λ files told. tt) (λ read agree. kept)

@@ -5,7 +5,9 @@ use Rattle.esa_outside.specs.Cause.{Rose}
 use Rattle.esa_outside.specs.Heard.{printed}
 use Rattle.esa_outside.specs.Told.{AddsFront, line_of}
 use Rattle.esa_refusal.specs.declared.source.Sink.{Sink}
+use Rattle.esa_refusal.specs.declared.status.Status.{Status}
 use Rattle.esa_refusal.specs.declared.status.Status.TheVariants.{Ok as EndsWell}
+use Rattle.esa_refusal.specs.Status.{status_texts}
 use Rattle.esa_command.specs.Settled.{written, BreaksAt, WritesHeard, BreakHeard}
 use Rattle.esa_command.specs.Stand.{Stand}
 use Rattle.esa_command.specs.Work.{Write, Work}
@@ -48,6 +50,16 @@ abbrev pub PrintsAll : {T E : Type 0} → List (List ℕ) → Stand (List ℕ) �
 PrintsAll lines before now (Ok done) = ArePrinted lines before now
 PrintsAll lines before now (Err why) = AreCut lines before now
 
+-- files, by what the call answers: where it isn't Ok, by the sink of the one that isn't written
+abbrev pub WritesAll : {T : Type 0} → List Write → Stand Files → Stand Files → Result T Sink → Type 0
+WritesAll writes before now (Ok done) = AreWritten writes before now
+WritesAll writes before now (Err sink) = AreBroken sink writes before now
+
 -- one file is written, and one line printed
 abbrev pub one_of_each : Write → List ℕ → Work
 one_of_each write line = record { ended = EndsWell; writes = write ∷ []; prints = line ∷ [] }
+
+-- What is left to do where a command failed after its input was accepted: these files are written, and the lines of its status
+-- are printed. By `ending` the status stays, whatever fails then.
+abbrev pub failed_work : Status → List Write → Work
+failed_work status writes = record { ended = status; writes = writes; prints = status_texts status }

@@ -11,19 +11,38 @@ use Rattle.esa_command.specs.Stand.{Stand}
 use Rattle.esa_command.specs.Step.{Step, Reads}
 use Rattle.esa_command.specs.Work.{Work}
 
--- It stopped before its work, and nothing was written or printed.
-pub record Stops (steps : Reads → Step Work) (cabinet cabinet_now : Stand Files) (printer printer_now : Stand (List ℕ)) (end : End) : Type 0 where
+-- It stopped before it acted, nothing was written or printed, and what else it has is idle.
+pub record Stops {A : Type 0} (idle : Type 0) (steps : Reads → Step A) (cabinet cabinet_now : Stand Files) (printer printer_now : Stand (List ℕ)) (end : End) : Type 0 where
   pub stop : Stop
   pub ended : end ≡ Stopped (status_of stop)
-  pub judged : Judged {X = Work} 0 6 (λ work. work) steps cabinet cabinet_now (Err stop)
+  pub judged : Judged {X = A} 0 6 (λ asked. asked) steps cabinet cabinet_now (Err stop)
   pub printer_stands : printer_now ≡ printer
+  pub idles : idle
 
--- Its input is accepted, and its work is done, after all that was read.
-pub record Works (steps : Reads → Step Work) (cabinet cabinet_now : Stand Files) (printer printer_now : Stand (List ℕ)) (end : End) : Type 0 where
+-- Its input is accepted and asks for something; the command acts for that, after all that was read; and the work that it
+-- owes then is done.
+pub record Works {A : Type 0} (Owes : A → Stand Files → Stand Files → Work → Type 0) (steps : Reads → Step A) (cabinet cabinet_now : Stand Files) (printer printer_now : Stand (List ℕ)) (end : End) : Type 0 where
+  pub asked : A
+  pub taken : Stand Files
+  pub judged : Judged 0 6 (λ asked. asked) steps cabinet taken (Ok asked)
   pub work : Work
-  pub middle : Stand Files
-  pub judged : Judged 0 6 (λ work. work) steps cabinet middle (Ok work)
-  pub settles : Settles work middle cabinet_now printer printer_now end
+  pub acted : Stand Files
+  pub owes : Owes asked taken acted work
+  pub settles : Settles work acted cabinet_now printer printer_now end
 
+-- A command that acts: `idle` says what holds of all but the cabinet and the printer where it stopped before, and `Owes`
+-- says, of what was asked and of the cabinet before the act and after it, which work is owed. The crate of the command
+-- gives both: they say what its device and its history did.
+abbrev pub EndsBy : {A : Type 0} → (idle : Type 0) → (Owes : A → Stand Files → Stand Files → Work → Type 0) → (Reads → Step A)
+    → (cabinet cabinet_now : Stand Files) → (printer printer_now : Stand (List ℕ)) → End → Type 0
+EndsBy idle Owes steps cabinet cabinet_now printer printer_now end =
+    Stops idle steps cabinet cabinet_now printer printer_now end ⊎ Works Owes steps cabinet cabinet_now printer printer_now end
+
+-- The work that is owed is the one that the input asks for, and nothing is done before it.
+pub record OwesAsked (asked : Work) (taken acted : Stand Files) (work : Work) : Type 0 where
+  pub same : work ≡ asked
+  pub still : acted ≡ taken
+
+-- A command without a device has the cabinet and the printer alone.
 abbrev pub Ends : (Reads → Step Work) → (cabinet cabinet_now : Stand Files) → (printer printer_now : Stand (List ℕ)) → End → Type 0
-Ends steps cabinet cabinet_now printer printer_now end = Stops steps cabinet cabinet_now printer printer_now end ⊎ Works steps cabinet cabinet_now printer printer_now end
+Ends steps cabinet cabinet_now printer printer_now end = EndsBy (Unit {0}) OwesAsked steps cabinet cabinet_now printer printer_now end

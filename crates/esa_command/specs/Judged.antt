@@ -17,16 +17,17 @@ IsMissing told steps source = (files : Files) × (told ≡ Some files) × (steps
 
 -- By what was read: it is refused so by the steps, and for what is wrong with a file. A file isn't read only where the
 -- steps before it are accepted, and where the count rose or the cabinet tells that it isn't there.
-abbrev pub StopsBy : {A : Type 0} → Option Files → (Reads → Step A) → (first last before now : ℕ) → Stop → Reads → Type 0
-StopsBy told steps first last before now (Refused refusal) read = (steps read ≡ refused refusal) × (now ≡ before) × IsOfInput refusal
-StopsBy told steps first last before now (Unread source) read =
-    (first ≤ place_of source) × (place_of source < last) × (steps (without source read) ≡ missing source) × (Rose before now ⊎ IsMissing told steps source)
-StopsBy told steps first last before now OutOfMemory read = now ≡ before
+abbrev pub StopsBy : {A : Type 0} → (Reads → Step A) → (first last : ℕ) → (before now : Stand Files) → Stop → Reads → Type 0
+StopsBy steps first last before now (Refused refusal) read = (steps read ≡ refused refusal) × (now.faults ≡ before.faults) × IsOfInput refusal
+StopsBy steps first last before now (Unread source) read =
+    (first ≤ place_of source) × (place_of source < last) × (steps (without source read) ≡ missing source)
+    × (Rose before.faults now.faults ⊎ IsMissing before.told steps source)
+StopsBy steps first last before now OutOfMemory read = now.faults ≡ before.faults
 
 -- What is accepted is so by the steps, and else it stops by them.
-abbrev pub AnswersBy : {X A : Type 0} → Option Files → (X → A) → (Reads → Step A) → (first last before now : ℕ) → Result X Stop → Reads → Type 0
-AnswersBy told view steps first last before now (Ok value) read = (steps read ≡ accepted (view value)) × (now ≡ before)
-AnswersBy told view steps first last before now (Err stop) read = StopsBy told steps first last before now stop read
+abbrev pub AnswersBy : {X A : Type 0} → (X → A) → (Reads → Step A) → (first last : ℕ) → (before now : Stand Files) → Result X Stop → Reads → Type 0
+AnswersBy view steps first last before now (Ok value) read = (steps read ≡ accepted (view value)) × (now.faults ≡ before.faults)
+AnswersBy view steps first last before now (Err stop) read = StopsBy steps first last before now stop read
 
 -- What the cabinet gave is all that was heard of it, each role once and in order; where the cabinet tells its files, it gave
 -- what it tells; and whatever else the files hold, the answer is that of the steps over what it gave.
@@ -35,5 +36,5 @@ pub record Judged {X A : Type 0} (first last : ℕ) (view : X → A) (steps : Re
   pub heard : now.heard ≡ before.heard ++ all_heard given
   pub once : AreInOrder first last given
   pub tells : (files : Files) → before.told ≡ Some files → AllAgree (reads_of files) given
-  pub answers : (read : Reads) → AllAgree read given → AnswersBy before.told view steps first last before.faults now.faults result read
+  pub answers : (read : Reads) → AllAgree read given → AnswersBy view steps first last before now result read
   pub told : now.told ≡ before.told

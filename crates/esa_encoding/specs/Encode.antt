@@ -67,12 +67,12 @@ encode_work output submissions lines = record {
   prints = encoded_text lines ∷ [];
 }
 
-abbrev pub encoded_work : Request → List ℕ × ℕ → Step Work
-encoded_work job made = accepted (encode_work (name_of job field.Output) made.0 made.1)
+abbrev pub encode_sealed : Request → List ℕ × ℕ → Step Work
+encode_sealed job made = accepted (encode_work (name_of job field.Output) made.0 made.1)
 
 -- with the job and the keys: the reports
 abbrev pub encode_keyed : Request → Reads → Ring → Step Work
-encode_keyed job read ring = reports_file job ring read >>= encoded_work job
+encode_keyed job read ring = reports_file job ring read >>= encode_sealed job
 
 -- with the job: its keys, and that of shares where it asks for them
 abbrev pub encode_asked : Reads → Request → Step Work

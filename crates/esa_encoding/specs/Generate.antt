@@ -46,9 +46,9 @@ generate_work output start crowds records = record {
 }
 
 -- what a job asks for
-abbrev pub generated_by : Request → Work
-generated_by job = generate_work (name_of job field.Output) (number_of job field.Number) (number_of job field.Crowds) (number_of job field.Records)
+abbrev pub generate_asked : Request → Work
+generate_asked job = generate_work (name_of job field.Output) (number_of job field.Number) (number_of job field.Crowds) (number_of job field.Records)
 
 -- gen: the job alone
 abbrev pub generate_steps : Bool → List ℕ → Reads → Step Work
-generate_steps crew_allowed name read = job_file Gen crew_allowed name read >>= λ job. accepted (generated_by job)
+generate_steps crew_allowed name read = job_file Gen crew_allowed name read >>= λ job. accepted (generate_asked job)

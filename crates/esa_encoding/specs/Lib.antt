@@ -1,3 +1,3 @@
 pub mod Generate
 pub mod Encode
-pub mod Encoded
+pub mod EncodeTaken

@@ -11,7 +11,7 @@ ghost use Rattle.esa_command.specs.Settled.{Settles};
 ghost use Rattle.esa_command.specs.Stand.{stand};
 ghost use Rattle.esa_command.specs.Taking.{keys_file};
 ghost use Rattle.esa_encoding.specs.Encode.{sealing_keys, has_shares, encoded_by, reports_file, encoded_text, encode_work, encode_steps};
-ghost use Rattle.esa_encoding.specs.Encoded.{sealed_as, sealed_work};
+ghost use Rattle.esa_encoding.specs.EncodeTaken.{sealed_as, encode_taken};
 
 use esa_bytes::line_count;
 use esa_command::{form_of, read_file, settle_one, take_job, take_keys, write_bytes};
@@ -106,7 +106,7 @@ fn take_encode<K: Cabinet>(
     crew_allowed: bool,
     name: &str,
 ) -> Result<EncodeInput, Stop>
-    ensures judged { Judged 0 6 sealed_work (encode_steps crew_allowed name.now)
+    ensures judged { Judged 0 6 encode_taken (encode_steps crew_allowed name.now)
         (stand K.told K.faults K.heard cabinet.old) (stand K.told K.faults K.heard cabinet.new) result }
     ensures output { IfOk result (λ input. Needs input.job JobField.Output) }
 {

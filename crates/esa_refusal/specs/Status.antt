@@ -50,9 +50,13 @@ abbrev pub failed_texts : Status → List (List ℕ)
 failed_texts (Overflow failures) = verdict_texts 0 (verdicts_of failures)
 failed_texts status = []
 
+-- its own line, where it has one
+abbrev pub own_texts : Status → List (List ℕ)
+own_texts status = if has_line status then status_text status ∷ [] else []
+
 -- the lines of a status, without their newlines
 abbrev pub status_texts : Status → List (List ℕ)
-status_texts status = failed_texts status ++ (if has_line status then status_text status ∷ [] else [])
+status_texts status = failed_texts status ++ own_texts status
 
 -- the status of a command that took nothing in
 abbrev pub status_of : Stop → Status

@@ -1,7 +1,7 @@
 //! The attempts of a run that all failed.
 
-ghost use Rattle.std.specs.Prelude.{◌≡◌};
-ghost use Rattle.esa_refusal.specs.Failures.{verdict_text};
+ghost use Rattle.std.specs.Prelude.{◌≡◌, ◌≤◌, length};
+ghost use Rattle.esa_refusal.specs.Failures.{verdict_text, verdicts_of};
 
 use crate::line::Line;
 use crate::refusal::add_numbered;
@@ -14,6 +14,29 @@ pub struct Failures {
     pub count: u8,
     /// How each of them ended. What stands behind them says nothing.
     pub verdicts: [Verdict; 16],
+}
+
+impl Failures {
+    /// The failures of attempts that ended so.
+    pub fn of(verdicts: &[Verdict]) -> Failures
+        requires { length verdicts.now ≤ 16 }
+        ensures { verdicts_of result ≡ verdicts.now }
+    {
+        let mut all = [Verdict::Good; 16];
+        all[..verdicts.len()].copy_from_slice(verdicts);
+        Failures {
+            count: verdicts.len() as u8,
+            verdicts: all,
+        }
+    }
+
+    /// How the attempts that were made ended.
+    pub fn made(&self) -> &[Verdict]
+        ensures { result.now ≡ verdicts_of self.now }
+    {
+        let count = usize::from(self.count).min(16);
+        &self.verdicts[..count]
+    }
 }
 
 /// The line of an attempt that ends so.

@@ -1,2 +1,2 @@
 mod Batching
-mod Verdicts
+mod Turning

@@ -50,27 +50,27 @@ submissions_file job read =
     >>= λ bytes. step_of (batched (form_asked job) (number_of job field.Epoch) (number_of job field.M) bytes)
 
 -- with the job: its submissions
-abbrev pub gather_asked : Reads → Request → Step (Request × Batched)
-gather_asked read job = submissions_file job read >>= λ made. accepted (job, made)
+abbrev pub batch_asked : Reads → Request → Step (Request × Batched)
+batch_asked read job = submissions_file job read >>= λ made. accepted (job, made)
 
 -- the job and its submissions
-unfoldable pub gather_steps : Bool → List ℕ → Reads → Step (Request × Batched)
-gather_steps crew_allowed name read = job_file command.Batch crew_allowed name read >>= gather_asked read
+unfoldable pub batch_input : Bool → List ℕ → Reads → Step (Request × Batched)
+batch_input crew_allowed name read = job_file command.Batch crew_allowed name read >>= batch_asked read
 
 -- the batch is written, and the number of its records is printed
 abbrev pub batched_text : Batched → List ℕ
 batched_text made = numbered (codes "batched ") (length made.list)
 
-abbrev pub batch_work : List ℕ → Batched → Work
-batch_work output made = record {
+abbrev pub batch_file_work : List ℕ → Batched → Work
+batch_file_work output made = record {
   ended = status.Ok;
   writes = record { sink = Output; name = output; bytes = batch_bytes made } ∷ [];
   prints = batched_text made ∷ [];
 }
 
-abbrev pub gathered_work : Request × Batched → Work
-gathered_work gathered = batch_work (name_of gathered.0 field.Output) gathered.1
+abbrev pub batch_work : Request × Batched → Work
+batch_work taken = batch_file_work (name_of taken.0 field.Output) taken.1
 
 -- batch: the job and its submissions
 abbrev pub batch_steps : Bool → List ℕ → Reads → Step Work
-batch_steps crew_allowed name read = gather_steps crew_allowed name read >>= λ gathered. accepted (gathered_work gathered)
+batch_steps crew_allowed name read = batch_input crew_allowed name read >>= λ taken. accepted (batch_work taken)

@@ -1,6 +1,6 @@
 pub mod Batch
-pub mod Batched
+pub mod BatchTaken
 pub mod Shuffle
 pub mod Drawn
 pub mod Plan
-pub mod Planned
+pub mod PlanTaken

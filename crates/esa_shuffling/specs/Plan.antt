@@ -41,15 +41,15 @@ forecast_work name verdicts accesses = record {
 }
 
 -- what a shuffle of these sizes does, by the lists of turns that are handed in, once each is completed
-abbrev pub foretold_work : Option (List ℕ) → Sizes → List (List ℕ) → (ℕ → Draw) → Work
-foretold_work name p turns draws = forecast_work name (verdicts p draws 0 (made p draws turns)) (trace p draws (made p draws turns))
+abbrev pub plan_work : Option (List ℕ) → Sizes → List (List ℕ) → (ℕ → Draw) → Work
+plan_work name p turns draws = forecast_work name (verdicts p draws 0 (made p draws turns)) (trace p draws (made p draws turns))
 
-abbrev pub foretold : Request → List (List ℕ) → (ℕ → Draw) → Step Work
-foretold job turns draws = accepted (foretold_work (name_at job field.Trace) (sizes_asked job) turns draws)
+abbrev pub plan_drawn : Request → List (List ℕ) → (ℕ → Draw) → Step Work
+plan_drawn job turns draws = accepted (plan_work (name_at job field.Trace) (sizes_asked job) turns draws)
 
 -- with the job and its turns: the coins
 abbrev pub plan_turned : Request → Reads → List (List ℕ) → Step Work
-plan_turned job read turns = coins_file Plan job read >>= foretold job turns
+plan_turned job read turns = coins_file Plan job read >>= plan_drawn job turns
 
 -- with the job: its turns
 abbrev pub plan_asked : Reads → Request → Step Work

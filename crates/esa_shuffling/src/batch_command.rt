@@ -7,8 +7,8 @@ ghost use Rattle.esa_command.specs.Ends.{Ends};
 ghost use Rattle.esa_command.specs.Judged.{Judged};
 ghost use Rattle.esa_command.specs.Settled.{Settles};
 ghost use Rattle.esa_command.specs.Stand.{stand};
-ghost use Rattle.esa_shuffling.specs.Batch.{batched, StopsBatching, submissions_file, gather_steps, batched_text, batch_work, batch_steps};
-ghost use Rattle.esa_shuffling.specs.Batched.{gathered_as};
+ghost use Rattle.esa_shuffling.specs.Batch.{batched, StopsBatching, submissions_file, batch_input, batched_text, batch_file_work, batch_steps};
+ghost use Rattle.esa_shuffling.specs.BatchTaken.{batch_taken};
 
 use esa_batcher::{Batch, gather};
 use esa_command::{form_of, read_file, settle_one, take_job};
@@ -59,7 +59,7 @@ fn take_batch<K: Cabinet>(
     crew_allowed: bool,
     name: &str,
 ) -> Result<BatchInput, Stop>
-    ensures judged { Judged 0 5 gathered_as (gather_steps crew_allowed name.now)
+    ensures judged { Judged 0 5 batch_taken (batch_input crew_allowed name.now)
         (stand K.told K.faults K.heard cabinet.old) (stand K.told K.faults K.heard cabinet.new) result }
     ensures command { IfOk result (λ input. (request_of input.job).command ≡ command.Batch) }
 {
@@ -84,7 +84,7 @@ fn work_batch<K: Cabinet, P: Printer>(
     output: &str,
     batch: &Batch,
 ) -> End
-    ensures { Settles (batch_work output.now batch.now)
+    ensures { Settles (batch_file_work output.now batch.now)
         (stand K.told K.faults K.heard cabinet.old) (stand K.told K.faults K.heard cabinet.new)
         (stand P.told P.faults P.heard printer.old) (stand P.told P.faults P.heard printer.new) result }
 {

@@ -4,7 +4,6 @@ ghost use Rattle.std.specs.Prelude.{◌≡◌, ◌<◌, ◌^◌, All, IfOk, Matc
 ghost use Rattle.esa_coins.specs.AnyCoins.{any_plan};
 ghost use Rattle.esa_job.specs.Seen.{request_of, Needs};
 ghost use Rattle.esa_model.specs.Turns.{AreWorkers};
-ghost use Rattle.esa_refusal.specs.Failures.{verdict_texts};
 ghost use Rattle.esa_command.specs.Doing.{PrintsAll};
 ghost use Rattle.esa_command.specs.Ends.{Ends};
 ghost use Rattle.esa_command.specs.Judged.{Judged};
@@ -12,15 +11,15 @@ ghost use Rattle.esa_command.specs.Settled.{Settles};
 ghost use Rattle.esa_command.specs.Stand.{stand};
 ghost use Rattle.esa_shuffling.specs.Shuffle.{sizes_asked};
 ghost use Rattle.esa_shuffling.specs.Plan.{accesses_text, forecast_texts, forecast_work, plan_steps};
-ghost use Rattle.esa_shuffling.specs.Planned.{planned_work};
+ghost use Rattle.esa_shuffling.specs.PlanTaken.{plan_taken};
 
 use crate::taking::{plan_of, take_coins, take_turns};
 use esa_coins::AnyCoins;
-use esa_command::{print_line, settle, take_job};
+use esa_command::{print_line, print_verdicts, settle, take_job};
 use esa_job::{Command, Job, JobField};
-use esa_model::{Forecast, Predictor, Turns, Verdict};
+use esa_model::{Forecast, Predictor, Turns};
 use esa_outside::{Cabinet, Failed, Printer, Role};
-use esa_refusal::{End, Line, Status, Stop, add_numbered, verdict_line};
+use esa_refusal::{End, Line, Status, Stop, add_numbered};
 use esa_trace::write_trace;
 use std::alloc::{AllocError, Global};
 
@@ -39,7 +38,7 @@ fn take_plan<K: Cabinet>(
     crew_allowed: bool,
     name: &str,
 ) -> Result<PlanInput, Stop>
-    ensures judged { Judged 0 6 planned_work (plan_steps crew_allowed name.now)
+    ensures judged { Judged 0 6 plan_taken (plan_steps crew_allowed name.now)
         (stand K.told K.faults K.heard cabinet.old) (stand K.told K.faults K.heard cabinet.new) result }
     ensures parameters { IfOk result (λ input. Needs input.job JobField.B) }
     ensures records { IfOk result (λ input. Needs input.job JobField.Records) }
@@ -59,18 +58,6 @@ fn accesses_line(accesses: u64) -> Line
     let mut line = Line::new();
     add_numbered(&mut line, "accesses ", accesses);
     line
-}
-
-/// Prints a line for each attempt.
-fn print_verdicts<P: Printer>(printer: &mut P, verdicts: &[Verdict]) -> Result<(), Failed>
-    ensures { PrintsAll (verdict_texts 0 verdicts.now)
-        (stand P.told P.faults P.heard printer.old) (stand P.told P.faults P.heard printer.new) result }
-{
-    for attempt in 0..verdicts.len() {
-        let line = verdict_line(attempt as u64, &verdicts[attempt]);
-        print_line(printer, line.as_bytes())?;
-    }
-    Ok(())
 }
 
 /// Prints how the attempts end, and how many accesses are made.
@@ -97,16 +84,16 @@ fn work_plan<K: Cabinet, P: Printer>(
         (stand P.told P.faults P.heard printer.old) (stand P.told P.faults P.heard printer.new) result }
 {
     match trace {
-        None => settle(print_forecast(printer, forecast)),
+        None => settle(Status::Ok, print_forecast(printer, forecast)),
         Some(name) => match write_trace(forecast.accesses(), cabinet, name) {
-            Ok(()) => settle(print_forecast(printer, forecast)),
+            Ok(()) => settle(Status::Ok, print_forecast(printer, forecast)),
             Err(Failed) => End::Stopped(Status::OutsideFault(Role::Trace)),
         },
     }
 }
 
 /// Foretells what a shuffle will do, and does the work for it. Where memory is wanted nothing is done.
-fn foretell<K: Cabinet, P: Printer>(
+fn foretell_plan<K: Cabinet, P: Printer>(
     alloc: Global,
     cabinet: &mut K,
     printer: &mut P,
@@ -117,7 +104,7 @@ fn foretell<K: Cabinet, P: Printer>(
     requires workers { AreWorkers (sizes_asked (request_of input.now.job)).workers input.now.turns }
     requires plan { any_plan input.now.coins ≡ sizes_asked (request_of input.now.job) }
     ensures { MatchResult result
-        (λ end. Settles (planned_work input.now)
+        (λ end. Settles (plan_taken input.now)
         (stand K.told K.faults K.heard cabinet.old) (stand K.told K.faults K.heard cabinet.new)
         (stand P.told P.faults P.heard printer.old) (stand P.told P.faults P.heard printer.new) end)
         (λ _. (cabinet.new ≡ cabinet.old) × (printer.new ≡ printer.old)) }
@@ -142,7 +129,7 @@ pub fn plan<K: Cabinet, P: Printer>(
         (stand P.told P.faults P.heard printer.old) (stand P.told P.faults P.heard printer.new) result }
 {
     match take_plan(alloc, cabinet, crew_allowed, name) {
-        Ok(input) => match foretell(alloc, cabinet, printer, &input) {
+        Ok(input) => match foretell_plan(alloc, cabinet, printer, &input) {
             Ok(end) => end,
             Err(AllocError) => End::Stopped(Status::OutOfMemory),
         },

@@ -18,4 +18,4 @@ pub returns-in-Err : goal.returns-in-Err
 returns-in-Err g c = λ write cabinet cabinet_now sink saved.
     let printer = stand g.P.Printer.told g.P.Printer.faults g.P.Printer.heard c.args.printer.now in
     subst (λ role. Settles (one_of_each write c.args.line.now) cabinet cabinet_now printer printer (Stopped (OutsideFault role))) (ap role_of_sink sink ∙ sym c.role.ensures)
-    (settled_unwritten (one_of_each write c.args.line.now) cabinet cabinet_now printer printer refl write.sink (subst (WritesIt write cabinet cabinet_now) c.in-Err.is saved) refl)
+    (settled_unwritten (one_of_each write c.args.line.now) cabinet cabinet_now printer printer write.sink (subst (WritesIt write cabinet cabinet_now) c.in-Err.is saved) refl)

@@ -16,7 +16,7 @@ use Rattle.esa_command.proofs.Composition.{judged_stop, judged_made, judged_file
 use Rattle.esa_command.proofs.Readers.{judged_stops}
 use Rattle.esa_encoding.specs.declared.encode_command.Sealed.{Sealed}
 use Rattle.esa_encoding.specs.Encode.{reports_file, sealed, encoded_by}
-use Rattle.esa_encoding.specs.Encoded.{sealed_as}
+use Rattle.esa_encoding.specs.EncodeTaken.{sealed_as}
 use Rattle.esa_encoding.proofs.encode_command.take_reports.Goals as goal
 
 pub returns-in_err-reports : goal.returns-in_err-reports

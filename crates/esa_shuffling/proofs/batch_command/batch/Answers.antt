@@ -9,8 +9,8 @@ use Rattle.esa_command.specs.Taking.{name_of}
 use Rattle.esa_command.specs.Work.{Work}
 use Rattle.esa_command.proofs.Composition.{judged_stop, judged_made, judged_wider}
 use Rattle.esa_command.proofs.Ending.{ends_stop, ends_work}
-use Rattle.esa_shuffling.specs.Batch.{gather_steps, batch_steps, batch_work, gathered_work}
-use Rattle.esa_shuffling.specs.Batched.{gathered_as}
+use Rattle.esa_shuffling.specs.Batch.{batch_input, batch_steps, batch_file_work, batch_work}
+use Rattle.esa_shuffling.specs.BatchTaken.{batch_taken}
 use Rattle.esa_shuffling.proofs.batch_command.batch.Goals as goal
 
 pub returns-in-Ok : goal.returns-in-Ok
@@ -22,13 +22,13 @@ returns-in-Ok g c =
     let now = cabinet c.work_batch.new.cabinet in
     let name = c.args.name.now in
     let input = c.in-Ok.input in
-    let work = gathered_work (gathered_as input) in
+    let work = batch_work (batch_taken input) in
     let steps = batch_steps c.args.crew_allowed name in
     let output : c.output.result.now ≡ name_of (request_of input.job) field.Output = sym (ap (λ name. unwrap_or name []) c.output.ensures) in
     ends_work (λ (work : Work). work) steps before middle now (printer c.args.printer.now) (printer c.work_batch.new.printer) c.work_batch.result work
     (judged_wider 0 5 6 (λ (work : Work). work) steps before middle _ (omega arith)
-    (judged_made 0 5 gathered_as (λ (work : Work). work) (gather_steps c.args.crew_allowed name) (λ all. accepted (gathered_work all)) input before middle c.in-Ok.ensures.judged work refl))
-    (subst (λ to. Settles (batch_work to input.batch) middle now (printer c.args.printer.now) (printer c.work_batch.new.printer) c.work_batch.result) output c.work_batch.ensures)
+    (judged_made 0 5 batch_taken (λ (work : Work). work) (batch_input c.args.crew_allowed name) (λ all. accepted (batch_work all)) input before middle c.in-Ok.ensures.judged work refl))
+    (subst (λ to. Settles (batch_file_work to input.batch) middle now (printer c.args.printer.now) (printer c.work_batch.new.printer) c.work_batch.result) output c.work_batch.ensures)
 
 pub returns-in-Err : goal.returns-in-Err
 returns-in-Err g c =
@@ -38,4 +38,4 @@ returns-in-Err g c =
     let middle = cabinet c.take_batch.new.cabinet in
     let name = c.args.name.now in
     ends_stop (λ (work : Work). work) (batch_steps c.args.crew_allowed name) before middle (printer c.args.printer.now) c.in-Err.stop c.from.result c.from.ensures
-    (judged_stop 0 0 5 6 gathered_as (λ (work : Work). work) (gather_steps c.args.crew_allowed name) (λ _ all. accepted (gathered_work all)) before middle c.in-Err.stop (omega arith) c.in-Err.ensures.judged)
+    (judged_stop 0 0 5 6 batch_taken (λ (work : Work). work) (batch_input c.args.crew_allowed name) (λ _ all. accepted (batch_work all)) before middle c.in-Err.stop (omega arith) c.in-Err.ensures.judged)

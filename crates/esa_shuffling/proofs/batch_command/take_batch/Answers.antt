@@ -7,37 +7,37 @@ use Rattle.esa_command.specs.Step.{accepted}
 use Rattle.esa_command.specs.Taking.{job_file}
 use Rattle.esa_command.proofs.Composition.{judged_stop, judged_then, judged_made}
 use Rattle.esa_shuffling.specs.declared.batch_command.BatchInput.{BatchInput}
-use Rattle.esa_shuffling.specs.Batch.{gather_steps, gather_asked, submissions_file}
-use Rattle.esa_shuffling.specs.Batched.{gathered_as}
+use Rattle.esa_shuffling.specs.Batch.{batch_input, batch_asked, submissions_file}
+use Rattle.esa_shuffling.specs.BatchTaken.{batch_taken}
 use Rattle.esa_shuffling.proofs.batch_command.take_batch.Goals as goal
 
 pub returns-in_err-job-clause-judged : goal.returns-in_err-job-clause-judged
-unfolding gather_steps
+unfolding batch_input
 returns-in_err-job-clause-judged g c =
     let p = err_from_is_err_and c.from_residual.result c.from_residual.ensures.1 in
     let stands = stand g.K.Cabinet.told g.K.Cabinet.faults g.K.Cabinet.heard in
-    rw (p.1, p.2) (judged_stop 0 0 1 5 request_of gathered_as (job_file Batch c.args.crew_allowed c.args.name.now) gather_asked
+    rw (p.1, p.2) (judged_stop 0 0 1 5 request_of batch_taken (job_file Batch c.args.crew_allowed c.args.name.now) batch_asked
     (stands c.args.cabinet.now) (stands c.take_job.new.cabinet) c.in_err-job.field-0.0 (omega arith) c.in_err-job.ensures.judged)
 
 pub returns-in_err-batch-clause-judged : goal.returns-in_err-batch-clause-judged
-unfolding gather_steps
+unfolding batch_input
 returns-in_err-batch-clause-judged g c =
     let p = err_from_is_err_and c.from_residual-in_err-batch.result c.from_residual-in_err-batch.ensures.1 in
     let stands = stand g.K.Cabinet.told g.K.Cabinet.faults g.K.Cabinet.heard in
     let job = request_of c.in_ok-job.job in
     let stop = c.in_err-batch.field-0.0 in
-    rw (p.1, p.2) (judged_then 0 1 4 5 request_of gathered_as (job_file Batch c.args.crew_allowed c.args.name.now) gather_asked c.in_ok-job.job
+    rw (p.1, p.2) (judged_then 0 1 4 5 request_of batch_taken (job_file Batch c.args.crew_allowed c.args.name.now) batch_asked c.in_ok-job.job
     (stands c.args.cabinet.now) (stands c.take_job.new.cabinet) (stands c.take_submissions.new.cabinet) (omega arith) c.in_ok-job.ensures.judged (Err stop)
-    (judged_stop 4 4 5 5 (λ batch. batch) gathered_as (submissions_file job) (λ read made. accepted (job, made))
+    (judged_stop 4 4 5 5 (λ batch. batch) batch_taken (submissions_file job) (λ read made. accepted (job, made))
     (stands c.take_job.new.cabinet) (stands c.take_submissions.new.cabinet) stop (omega arith) c.in_err-batch.ensures))
 
 pub returns-clause-judged : goal.returns-clause-judged
-unfolding gather_steps
+unfolding batch_input
 returns-clause-judged g c =
     let stands = stand g.K.Cabinet.told g.K.Cabinet.faults g.K.Cabinet.heard in
     let job = request_of c.in_ok-job.job in
     let input : BatchInput = record { job = c.in_ok-job.job; batch = c.in_ok-batch.batch } in
-    judged_then 0 1 4 5 request_of gathered_as (job_file Batch c.args.crew_allowed c.args.name.now) gather_asked c.in_ok-job.job
+    judged_then 0 1 4 5 request_of batch_taken (job_file Batch c.args.crew_allowed c.args.name.now) batch_asked c.in_ok-job.job
     (stands c.args.cabinet.now) (stands c.take_job.new.cabinet) (stands c.take_submissions.new.cabinet) (omega arith) c.in_ok-job.ensures.judged (Ok input)
-    (judged_made 4 5 (λ batch. batch) gathered_as (submissions_file job) (λ made. accepted (job, made)) c.in_ok-batch.batch
+    (judged_made 4 5 (λ batch. batch) batch_taken (submissions_file job) (λ made. accepted (job, made)) c.in_ok-batch.batch
     (stands c.take_job.new.cabinet) (stands c.take_submissions.new.cabinet) c.in_ok-batch.ensures input refl)

@@ -44,5 +44,5 @@ returns-in-Err g c =
     let work = forecast_work (Some name) forecast.verdicts forecast.accesses in
     let named : option_map (λ name. name.now) c.args.trace ≡ Some name = ap (option_map (λ name. name.now)) c.in-Some.is in
     subst (λ name. Settles (forecast_work name forecast.verdicts forecast.accesses) before now (printer c.args.printer.now) (printer c.args.printer.now) (Stopped (status.OutsideFault role.Trace))) (sym named)
-    (settled_unwritten work before now (printer c.args.printer.now) (printer c.args.printer.now) refl Trace
+    (settled_unwritten work before now (printer c.args.printer.now) (printer c.args.printer.now) Trace
     (subst (λ xs. AreBroken Trace (record { sink = Trace; name = name; bytes = trace_bytes xs } ∷ []) before now) c.accesses.ensures wrote) refl)

@@ -3,8 +3,8 @@ use Rattle.std.proofs.lemmas.Result.{err_from_is_err_and}
 use Rattle.esa_refusal.specs.Failures.{verdict_texts}
 use Rattle.esa_command.specs.Stand.{stand}
 use Rattle.esa_command.proofs.Printing.{none_printed, printed_next, printed_end, cut_next}
-use Rattle.esa_shuffling.proofs.Verdicts.{texts_length, text_at}
-use Rattle.esa_shuffling.proofs.plan_command.print_verdicts.Goals as goal
+use Rattle.esa_command.proofs.VerdictTexts.{texts_length, text_at}
+use Rattle.esa_command.proofs.status_lines.print_verdicts.Goals as goal
 
 pub loop-attempt-init : goal.loop-attempt-init
 loop-attempt-init g c = none_printed (stand g.P.Printer.told g.P.Printer.faults g.P.Printer.heard c.args.printer.now)

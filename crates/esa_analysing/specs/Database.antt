@@ -16,9 +16,9 @@ database_file command request read =
     file command source.Input (name_of request field.Input) read >>= λ bytes. read_step refusal.Database (database_in bytes)
 
 -- with the job: its database file
-abbrev pub load_asked : Command → Reads → Request → Step (Request × Stored)
-load_asked command read job = database_file command job read >>= λ stored. accepted (job, stored)
+abbrev pub database_asked : Command → Reads → Request → Step (Request × Stored)
+database_asked command read job = database_file command job read >>= λ stored. accepted (job, stored)
 
 -- the job and its database file
-unfoldable pub load_steps : Command → Bool → List ℕ → Reads → Step (Request × Stored)
-load_steps command crew_allowed name read = job_file command crew_allowed name read >>= load_asked command read
+unfoldable pub database_input : Command → Bool → List ℕ → Reads → Step (Request × Stored)
+database_input command crew_allowed name read = job_file command crew_allowed name read >>= database_asked command read

@@ -12,5 +12,5 @@ abbrev pub sealed_as : Sealed → List ℕ × ℕ
 sealed_as sealed = (sealed.submissions.items, sealed.lines)
 
 -- what is to be done with it
-abbrev pub sealed_work : EncodeInput → Work
-sealed_work input = encode_work (name_of (request_of input.job) field.Output) input.sealed.submissions.items input.sealed.lines
+abbrev pub encode_taken : EncodeInput → Work
+encode_taken input = encode_work (name_of (request_of input.job) field.Output) input.sealed.submissions.items input.sealed.lines

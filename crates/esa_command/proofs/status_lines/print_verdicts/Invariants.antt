@@ -2,7 +2,7 @@ use Rattle.std.proofs.Common.{take}
 use Rattle.esa_refusal.specs.Failures.{verdict_texts}
 use Rattle.esa_command.specs.Doing.{ArePrinted}
 use Rattle.esa_command.specs.Stand.{stand}
-use Rattle.esa_shuffling.proofs.plan_command.print_verdicts.Given as goal
+use Rattle.esa_command.proofs.status_lines.print_verdicts.Given as goal
 
 abbrev pub invariant-loop-attempt : goal.invariant-loop-attempt
 invariant-loop-attempt g l =

@@ -1,11 +1,6 @@
--- The lines of the attempts, one by one, and how many turns are made.
-use Rattle.std.proofs.Common.{◌≡◌, ℕ, zero, suc, ◌+◌, ◌<◌, ◌≤◌, List, [], ◌∷◌, length, get_or, refl, ap, ◌∙◌, arith}
-use Rattle.std.proofs.lemmas.List.{length-map}
-use Rattle.std.proofs.lemmas.List.FromFn.{length-range_with_len}
-use Rattle.esa_params.specs.Sizes.{Sizes, below}
-use Rattle.esa_spec.specs.Draws.{Draw}
+-- The lines of the attempts, one by one.
+use Rattle.std.proofs.Common.{◌≡◌, ℕ, zero, suc, ◌+◌, ◌<◌, List, [], ◌∷◌, length, get_or, refl, ap, ◌∙◌, arith}
 use Rattle.esa_spec.specs.declared.event.Verdict.{Verdict}
-use Rattle.esa_model.specs.Forecast.{made, made_in}
 use Rattle.esa_refusal.specs.Failures.{verdict_text, verdict_texts}
 
 pub texts_length : (attempt : ℕ) (verdicts : List Verdict) → length (verdict_texts attempt verdicts) ≡ length verdicts
@@ -19,7 +14,3 @@ texts_at attempt (verdict ∷ verdicts) (suc i) d below = texts_at (attempt + 1)
 
 pub text_at : (verdicts : List Verdict) (i : ℕ) (d : Verdict) → i < length verdicts → get_or (verdict_texts 0 verdicts) i [] ≡ verdict_text i (get_or verdicts i d)
 text_at verdicts i d below = texts_at 0 verdicts i d below ∙ ap (λ n. verdict_text n (get_or verdicts i d)) (omega arith)
-
--- turns are made for each planned attempt
-pub made_few : (p : Sizes) (ds : ℕ → Draw) (turns : List (List ℕ)) → length (made p ds turns) ≤ p.attempts
-made_few p ds turns = omega (arith, length-map (below p.attempts) (made_in p ds turns), length-range_with_len 0 p.attempts)

@@ -5,8 +5,8 @@ ghost use Rattle.esa_analyser.specs.Rows.{IsDatabase};
 ghost use Rattle.esa_job.specs.declared.field.Need.TheVariants.{Needed};
 ghost use Rattle.esa_job.specs.Seen.{request_of, Needs};
 ghost use Rattle.esa_job.specs.Table.{need_of};
-ghost use Rattle.esa_analysing.specs.Loading.{database_file, load_steps};
-ghost use Rattle.esa_analysing.specs.Loaded.{loaded_as};
+ghost use Rattle.esa_analysing.specs.Database.{database_file, database_input};
+ghost use Rattle.esa_analysing.specs.DatabaseTaken.{database_taken};
 ghost use Rattle.esa_command.specs.Judged.{Judged};
 ghost use Rattle.esa_command.specs.Stand.{stand};
 
@@ -19,7 +19,7 @@ use std::alloc::Global;
 
 /// What the commands take in that read a database.
 #[derive(Drop)]
-pub struct Loaded {
+pub struct DatabaseInput {
     pub job: Job,
     pub db: Db,
 }
@@ -41,20 +41,20 @@ pub fn take_database<K: Cabinet>(
 }
 
 /// Takes in the job of a command and its database.
-pub(crate) fn load<K: Cabinet>(
+pub(crate) fn take_job_and_database<K: Cabinet>(
     alloc: Global,
     cabinet: &mut K,
     command: Command,
     crew_allowed: bool,
     name: &str,
-) -> Result<Loaded, Stop>
+) -> Result<DatabaseInput, Stop>
     requires { need_of JobField.Input command ≡ Needed }
-    ensures judged { Judged 0 5 loaded_as (load_steps command crew_allowed name.now)
+    ensures judged { Judged 0 5 database_taken (database_input command crew_allowed name.now)
         (stand K.told K.faults K.heard cabinet.old) (stand K.told K.faults K.heard cabinet.new) result }
-    ensures command { IfOk result (λ loaded. (request_of loaded.job).command ≡ command) }
-    ensures database { IfOk result (λ loaded. IsDatabase loaded.db.form loaded.db.database) }
+    ensures command { IfOk result (λ input. (request_of input.job).command ≡ command) }
+    ensures database { IfOk result (λ input. IsDatabase input.db.form input.db.database) }
 {
     let job = take_job(alloc, cabinet, command, crew_allowed, name)?;
     let db = take_database(alloc, cabinet, command, &job)?;
-    Ok(Loaded { job, db })
+    Ok(DatabaseInput { job, db })
 }

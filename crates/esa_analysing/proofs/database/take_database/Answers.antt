@@ -9,13 +9,13 @@ use Rattle.esa_refusal.specs.declared.refusal.Refusal.TheVariants as refusal
 use Rattle.esa_refusal.specs.declared.source.Source.TheVariants as source
 use Rattle.esa_refusal.specs.Stop.{stop_of_database}
 use Rattle.esa_refusal.proofs.Stops.{database_stops}
-use Rattle.esa_analysing.specs.Loading.{database_file}
+use Rattle.esa_analysing.specs.Database.{database_file}
 use Rattle.esa_command.specs.Stand.{stand}
 use Rattle.esa_command.specs.Step.{file}
 use Rattle.esa_command.specs.Taking.{read_step, name_of}
 use Rattle.esa_command.proofs.Composition.{judged_stop, judged_file}
 use Rattle.esa_command.proofs.Readers.{judged_read, judged_unread}
-use Rattle.esa_analysing.proofs.loading.take_database.Goals as goal
+use Rattle.esa_analysing.proofs.database.take_database.Goals as goal
 
 pub returns-in_err-bytes-clause-judged : goal.returns-in_err-bytes-clause-judged
 unfolding database_file

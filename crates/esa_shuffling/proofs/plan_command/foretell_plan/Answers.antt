@@ -11,10 +11,10 @@ use Rattle.esa_command.specs.Settled.{Settles}
 use Rattle.esa_command.specs.Stand.{stand}
 use Rattle.esa_shuffling.specs.Drawn.{draws_of}
 use Rattle.esa_shuffling.specs.Plan.{forecast_work}
-use Rattle.esa_shuffling.specs.Planned.{planned_work}
+use Rattle.esa_shuffling.specs.PlanTaken.{plan_taken}
 use Rattle.esa_shuffling.specs.Shuffle.{sizes_asked}
-use Rattle.esa_shuffling.proofs.Verdicts.{made_few}
-use Rattle.esa_shuffling.proofs.plan_command.foretell.Goals as goal
+use Rattle.esa_shuffling.proofs.Turning.{made_few}
+use Rattle.esa_shuffling.proofs.plan_command.foretell_plan.Goals as goal
 
 pub work_plan-requires-clause-attempts : goal.work_plan-requires-clause-attempts
 work_plan-requires-clause-attempts g c =
@@ -45,7 +45,7 @@ returns g c =
     c.run-forecast.ensures.verdicts ∙ ap (λ p. verdicts p draws 0 (made p draws turns)) sizes in
     let asks : c.run-forecast.result.now.accesses ≡ trace (sizes_asked job) draws (made (sizes_asked job) draws turns) =
     c.run-forecast.ensures.accesses ∙ ap (λ p. trace p draws (made p draws turns)) sizes in
-    let same : forecast_work (option_map (λ name. name.now) c.trace.result) c.run-forecast.result.now.verdicts c.run-forecast.result.now.accesses ≡ planned_work input =
+    let same : forecast_work (option_map (λ name. name.now) c.trace.result) c.run-forecast.result.now.verdicts c.run-forecast.result.now.accesses ≡ plan_taken input =
     λ i. forecast_work (c.trace.ensures i) (ends i) (asks i) in
     subst (λ work. Settles work (cabinet c.args.cabinet.now) (cabinet c.work_plan.new.cabinet) (printer c.args.printer.now) (printer c.work_plan.new.printer) c.work_plan.result) same c.work_plan.ensures
 
