@@ -1,14 +1,12 @@
 //! Counting the reports of a list of envelopes.
 
 ghost use Rattle.std.specs.Prelude.{◌≡◌, ◌*◌, ◌⊎◌, ◌≤◌, ℕ, List, [], None, Some, length, count_by, IfOk, OnOk, OnErr};
-ghost use Rattle.std.specs.FinMap as map;
 ghost use Rattle.std.specs.List.{concat};
 ghost use Rattle.std.specs.List.Sorted.{IsPermutation};
 ghost use Rattle.esa_header.specs.Pieces.{HaveLength};
 ghost use Rattle.esa_params.specs.Form.{inner_length};
-ghost use Rattle.esa_outside.specs.Files.{Files};
 ghost use Rattle.esa_outside.specs.Cause.{HasCause};
-ghost use Rattle.esa_outside.specs.Told.{HoldsFront};
+ghost use Rattle.esa_page.specs.Underway.{IsWhole, IsLeft};
 ghost use Rattle.esa_page.specs.Writing.{HasWritten, HasBroken};
 ghost use Rattle.esa_analyser.specs.Rows.{IsDatabase, database_bytes};
 ghost use Rattle.esa_analyser.specs.Opened.{database_of, gives, count_in};
@@ -100,13 +98,10 @@ impl Analysis {
 
     /// Writes the database as a file of the form's version. The file starts anew. It takes no memory.
     pub fn write<K: Cabinet>(&self, cabinet: &mut K, name: &str) -> Result<(), Failed>
-        ensures written { (files : Files) → K.told cabinet.old ≡ Some files
-            → OnOk result (K.told cabinet.new ≡ Some (map.insert files name.now (database_bytes self.now.form self.now.database))) }
+        ensures whole { OnOk result (IsWhole (K.told cabinet.old) name.now (database_bytes self.now.form self.now.database) (K.told cabinet.new)) }
 
         // A failed call leaves the file as it was, or a front of the whole file.
-        ensures failed { (files : Files) → K.told cabinet.old ≡ Some files
-            → OnErr result ((K.told cabinet.new ≡ Some files) ⊎ HoldsFront files name.now (database_bytes self.now.form self.now.database) (K.told cabinet.new)) }
-        ensures silent { K.told cabinet.old ≡ None → K.told cabinet.new ≡ None }
+        ensures left { OnErr result (IsLeft (K.told cabinet.old) name.now (database_bytes self.now.form self.now.database) (K.told cabinet.new)) }
         ensures heard { OnOk result (HasWritten (K.heard cabinet.old) name.now (database_bytes self.now.form self.now.database) (K.heard cabinet.new)) }
         ensures heard_broken { OnErr result (HasBroken (K.heard cabinet.old) name.now (database_bytes self.now.form self.now.database) (K.heard cabinet.new)) }
         ensures cause { HasCause (K.faults cabinet.old) (K.faults cabinet.new) ⊥ result }

@@ -22,5 +22,6 @@ mod write;
 
 pub use analysis::Analysis;
 pub use db::{Db, read_db};
+pub use put::{LONGEST, front, spell_row};
 pub use refused::DbRefused;
 pub use write::write_db;

@@ -1,4 +1,4 @@
-//! The header and the rows of a database file, written through a page.
+//! The header and the rows of a database file, spelled and written through a page.
 
 ghost use Rattle.std.specs.Prelude.{◌≡◌, ◌≤◌, ◌++◌, List, ℕ, Option, length, take, OnOk, OnErr};
 ghost use Rattle.esa_outside.specs.Files.{Files};
@@ -15,10 +15,10 @@ use esa_page::Page;
 use esa_params::Form;
 
 /// The longest value of a row, in bytes: that of form Two.
-pub(crate) const LONGEST: usize = 190;
+pub const LONGEST: usize = 190;
 
 /// The header of a database file.
-pub(crate) fn front(form: Form, rows: u32, unopened: u32) -> [u8; 13]
+pub fn front(form: Form, rows: u32, unopened: u32) -> [u8; 13]
     ensures { result ≡ front_bytes form rows unopened }
 {
     let [r0, r1, r2, r3] = rows.to_be_bytes();
@@ -40,8 +40,8 @@ pub(crate) fn front(form: Form, rows: u32, unopened: u32) -> [u8; 13]
     ]
 }
 
-/// Writes a row to the front of `out` and answers its length, in bytes.
-fn spell_row(value: &[u8], count: u32, out: &mut [u8]) -> usize
+/// Writes a row of a database file to the front of `out` and answers its length, in bytes.
+pub fn spell_row(value: &[u8], count: u32, out: &mut [u8]) -> usize
     requires short { length value.now ≤ LONGEST }
     requires room { length out.old ≡ 195 }
     ensures row { take result out.new ≡ row_bytes (value.now, count) }

@@ -83,8 +83,8 @@ pub(crate) fn reports<const P: usize>(list: &[Repeated<P>]) -> u32
     ensures { result ≡ length (all_keys list.now) }
 {
     let mut reports = 0;
-    for place in 0..list.len() {
-        reports += list[place].times;
+    for repeated in list {
+        reports += repeated.times;
     }
     reports
 }

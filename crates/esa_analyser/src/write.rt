@@ -1,11 +1,9 @@
 //! Writing databases.
 
 ghost use Rattle.std.specs.Prelude.{◌≡◌, ◌⊎◌, ◌≤◌, ◌<◌, ◌++◌, List, ℕ, None, Some, Option, All, length, flat_map, OnOk, OnErr};
-ghost use Rattle.std.specs.FinMap as map;
 ghost use Rattle.esa_outside.specs.Files.{Files};
 ghost use Rattle.esa_outside.specs.Cause.{HasCause};
 ghost use Rattle.esa_outside.specs.Heard.{Event};
-ghost use Rattle.esa_outside.specs.Told.{HoldsFront};
 ghost use Rattle.esa_page.specs.Underway.{IsUnderway, IsWhole, IsLeft};
 ghost use Rattle.esa_page.specs.Writing.{IsWriting, HasWritten, HasBroken};
 ghost use Rattle.esa_params.specs.declared.form.Form.{Form};
@@ -42,9 +40,13 @@ fn put_rows<K: Cabinet>(db: &Db, page: &mut Page, cabinet: &mut K, name: &str) -
     Ok(())
 }
 
-/// Writes the whole file. It starts anew.
-fn write_file<K: Cabinet>(form: Form, db: &Db, cabinet: &mut K, name: &str) -> Result<(), Failed>
+/// Writes a database as a file of the form's version, whatever file it was read from. The file starts
+/// anew. It takes no memory.
+pub fn write_db<K: Cabinet>(form: Form, db: &Db, cabinet: &mut K, name: &str) -> Result<(), Failed>
+    requires { All (λ row. length row.0 ≤ longest form) db.now.database.rows }
     ensures whole { OnOk result (IsWhole (K.told cabinet.old) name.now (database_bytes form db.now.database) (K.told cabinet.new)) }
+
+    // A failed call leaves the file as it was, or a front of the whole file.
     ensures left { OnErr result (IsLeft (K.told cabinet.old) name.now (database_bytes form db.now.database) (K.told cabinet.new)) }
     ensures heard { OnOk result (HasWritten (K.heard cabinet.old) name.now (database_bytes form db.now.database) (K.heard cabinet.new)) }
     ensures heard_broken { OnErr result (HasBroken (K.heard cabinet.old) name.now (database_bytes form db.now.database) (K.heard cabinet.new)) }
@@ -54,22 +56,4 @@ fn write_file<K: Cabinet>(form: Form, db: &Db, cabinet: &mut K, name: &str) -> R
     page.put(cabinet, name, &front(form, db.rows(), db.unopened()))?;
     put_rows(db, &mut page, cabinet, name)?;
     page.finish(cabinet, name)
-}
-
-/// Writes a database as a file of the form's version, whatever file it was read from. The file starts
-/// anew. It takes no memory.
-pub fn write_db<K: Cabinet>(form: Form, db: &Db, cabinet: &mut K, name: &str) -> Result<(), Failed>
-    requires { All (λ row. length row.0 ≤ longest form) db.now.database.rows }
-    ensures written { (files : Files) → K.told cabinet.old ≡ Some files
-        → OnOk result (K.told cabinet.new ≡ Some (map.insert files name.now (database_bytes form db.now.database))) }
-
-    // A failed call leaves the file as it was, or a front of the whole file.
-    ensures failed { (files : Files) → K.told cabinet.old ≡ Some files
-        → OnErr result ((K.told cabinet.new ≡ Some files) ⊎ HoldsFront files name.now (database_bytes form db.now.database) (K.told cabinet.new)) }
-    ensures silent { K.told cabinet.old ≡ None → K.told cabinet.new ≡ None }
-    ensures heard { OnOk result (HasWritten (K.heard cabinet.old) name.now (database_bytes form db.now.database) (K.heard cabinet.new)) }
-    ensures heard_broken { OnErr result (HasBroken (K.heard cabinet.old) name.now (database_bytes form db.now.database) (K.heard cabinet.new)) }
-    ensures cause { HasCause (K.faults cabinet.old) (K.faults cabinet.new) ⊥ result }
-{
-    write_file(form, db, cabinet, name)
 }

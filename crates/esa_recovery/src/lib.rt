@@ -4,8 +4,7 @@
 //! record counts, and as many points as it takes give back a value, which stands only where the mark is its own.
 //! [`Meanings`] says of each row of a database what it means, and [`Recovered`] is the database of what they mean.
 //!
-//! The crate stands on `esa_shares` for the arithmetic, on `esa_analyser` and `esa_header` for databases, and on
-//! `esa_outside` for files.
+//! The crate stands on `esa_shares` for the arithmetic, and on `esa_analyser` for databases.
 #![tactic(auto)]
 
 mod group;

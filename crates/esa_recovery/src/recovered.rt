@@ -1,13 +1,8 @@
 //! The database of what the rows of a database mean.
 
-ghost use Rattle.std.specs.Prelude.{◌≡◌, ◌⊎◌, ◌+◌, ◌<◌, ◌↔◌, ◌^◌, Err, IfOk, MatchResult, length, OnOk, OnErr, None, Some};
-ghost use Rattle.std.specs.FinMap as map;
-ghost use Rattle.esa_analyser.specs.Database.{Database};
+ghost use Rattle.std.specs.Prelude.{◌≡◌, ◌+◌, ◌<◌, ◌≤◌, ◌↔◌, ◌^◌, Err, IfOk, MatchResult, All, length};
+ghost use Rattle.esa_analyser.specs.Database.{Database, longest};
 ghost use Rattle.esa_analyser.specs.Rows.{IsDatabase, database_bytes};
-ghost use Rattle.esa_outside.specs.Files.{Files};
-ghost use Rattle.esa_outside.specs.Cause.{HasCause};
-ghost use Rattle.esa_outside.specs.Told.{HoldsFront};
-ghost use Rattle.esa_page.specs.Writing.{HasWritten, HasBroken};
 ghost use Rattle.esa_params.specs.declared.form.Form.{Form};
 ghost use Rattle.esa_recovery.specs.Recovered.{recovered_database, total};
 ghost use Rattle.esa_recovery.specs.declared.refused.RecoverRefused.TheVariants.{OutOfMemory, Sum};
@@ -16,8 +11,7 @@ use crate::meanings::Meanings;
 use crate::refused::RecoverRefused;
 use crate::spelled::spelled;
 use crate::tally::tally_of;
-use esa_analyser::{Db, read_db, write_db};
-use esa_outside::{Cabinet, Failed};
+use esa_analyser::{Db, read_db};
 use std::alloc::Global;
 use std::marker::Model;
 
@@ -90,33 +84,12 @@ impl Recovered {
         recovered_from(alloc, db)
     }
 
-    /// The number of rows.
-    pub fn rows(&self) -> u32
-        ensures { result ≡ length self.now.database.rows }
+    /// The database, which a file of its version can hold.
+    pub fn db(&self) -> &Db
+        ensures same { result.now ≡ self.now }
+        ensures readable { IsDatabase result.now.form result.now.database }
+        ensures fits { All (λ row. length row.0 ≤ longest result.now.form) result.now.database.rows }
     {
-        self.db.rows()
-    }
-
-    /// The number of envelopes that gave no value, and of reports of shares that give none.
-    pub fn unopened(&self) -> u32
-        ensures { result ≡ self.now.database.unopened }
-    {
-        self.db.unopened()
-    }
-
-    /// Writes the database as a file of the version that was read. The file starts anew. It takes no memory.
-    pub fn write<K: Cabinet>(&self, cabinet: &mut K, name: &str) -> Result<(), Failed>
-        ensures written { (files : Files) → K.told cabinet.old ≡ Some files
-            → OnOk result (K.told cabinet.new ≡ Some (map.insert files name.now (database_bytes self.now.form self.now.database))) }
-
-        // A failed call leaves the file as it was, or a front of the whole file.
-        ensures failed { (files : Files) → K.told cabinet.old ≡ Some files
-            → OnErr result ((K.told cabinet.new ≡ Some files) ⊎ HoldsFront files name.now (database_bytes self.now.form self.now.database) (K.told cabinet.new)) }
-        ensures silent { K.told cabinet.old ≡ None → K.told cabinet.new ≡ None }
-        ensures heard { OnOk result (HasWritten (K.heard cabinet.old) name.now (database_bytes self.now.form self.now.database) (K.heard cabinet.new)) }
-        ensures heard_broken { OnErr result (HasBroken (K.heard cabinet.old) name.now (database_bytes self.now.form self.now.database) (K.heard cabinet.new)) }
-        ensures cause { HasCause (K.faults cabinet.old) (K.faults cabinet.new) ⊥ result }
-    {
-        write_db(self.db.form(), &self.db, cabinet, name)
+        &self.db
     }
 }

@@ -1,11 +1,9 @@
 //! Writing a trace.
 
 ghost use Rattle.std.specs.Prelude.{◌≡◌, ◌⊎◌, ◌<◌, ◌^◌, ◌++◌, List, ℕ, None, Some, Option, All, length, flat_map, OnOk, OnErr};
-ghost use Rattle.std.specs.FinMap as map;
 ghost use Rattle.esa_outside.specs.Files.{Files};
 ghost use Rattle.esa_outside.specs.Cause.{HasCause};
 ghost use Rattle.esa_outside.specs.Heard.{Event};
-ghost use Rattle.esa_outside.specs.Told.{HoldsFront};
 ghost use Rattle.esa_page.specs.Underway.{IsUnderway, IsWhole, IsLeft};
 ghost use Rattle.esa_page.specs.Writing.{IsWriting, HasWritten, HasBroken};
 ghost use Rattle.esa_spec.specs.Files.{access_bytes, trace_bytes};
@@ -39,26 +37,10 @@ fn put_accesses<K: Cabinet>(
         → IsUnderway before name.now text page.old (K.told cabinet.old)
         → HasCause (K.faults cabinet.old) (K.faults cabinet.new) ⊥ result }
 {
-    for index in 0..accesses.len() {
-        page.put(cabinet, name, &spell(&accesses[index]))?;
+    for access in accesses {
+        page.put(cabinet, name, &spell(access))?;
     }
     Ok(())
-}
-
-// Writes the whole file. It starts anew.
-fn write_file<K: Cabinet>(accesses: &[Access], cabinet: &mut K, name: &str) -> Result<(), Failed>
-    requires attempts { All (λ access. access.attempt < 256) accesses.now }
-    requires number { length accesses.now < 2 ^ 32 }
-    ensures whole { OnOk result (IsWhole (K.told cabinet.old) name.now (trace_bytes accesses.now) (K.told cabinet.new)) }
-    ensures left { OnErr result (IsLeft (K.told cabinet.old) name.now (trace_bytes accesses.now) (K.told cabinet.new)) }
-    ensures heard { OnOk result (HasWritten (K.heard cabinet.old) name.now (trace_bytes accesses.now) (K.heard cabinet.new)) }
-    ensures heard_broken { OnErr result (HasBroken (K.heard cabinet.old) name.now (trace_bytes accesses.now) (K.heard cabinet.new)) }
-    ensures cause { HasCause (K.faults cabinet.old) (K.faults cabinet.new) ⊥ result }
-{
-    let mut page = Page::start(cabinet, name)?;
-    page.put(cabinet, name, &header(accesses.len() as u32))?;
-    put_accesses(accesses, &mut page, cabinet, name)?;
-    page.finish(cabinet, name)
 }
 
 /// Writes a trace as a file, which starts anew. It takes no memory.
@@ -73,16 +55,16 @@ pub fn write_trace<K: Cabinet>(
 ) -> Result<(), Failed>
     requires attempts { All (λ access. access.attempt < 256) accesses.now }
     requires number { length accesses.now < 2 ^ 32 }
-    ensures written { (files : Files) → K.told cabinet.old ≡ Some files
-        → OnOk result (K.told cabinet.new ≡ Some (map.insert files name.now (trace_bytes accesses.now))) }
+    ensures whole { OnOk result (IsWhole (K.told cabinet.old) name.now (trace_bytes accesses.now) (K.told cabinet.new)) }
 
     // A failed call leaves the file as it was, or a front of the whole file.
-    ensures failed { (files : Files) → K.told cabinet.old ≡ Some files
-        → OnErr result ((K.told cabinet.new ≡ Some files) ⊎ HoldsFront files name.now (trace_bytes accesses.now) (K.told cabinet.new)) }
-    ensures silent { K.told cabinet.old ≡ None → K.told cabinet.new ≡ None }
+    ensures left { OnErr result (IsLeft (K.told cabinet.old) name.now (trace_bytes accesses.now) (K.told cabinet.new)) }
     ensures heard { OnOk result (HasWritten (K.heard cabinet.old) name.now (trace_bytes accesses.now) (K.heard cabinet.new)) }
     ensures heard_broken { OnErr result (HasBroken (K.heard cabinet.old) name.now (trace_bytes accesses.now) (K.heard cabinet.new)) }
     ensures cause { HasCause (K.faults cabinet.old) (K.faults cabinet.new) ⊥ result }
 {
-    write_file(accesses, cabinet, name)
+    let mut page = Page::start(cabinet, name)?;
+    page.put(cabinet, name, &header(accesses.len() as u32))?;
+    put_accesses(accesses, &mut page, cabinet, name)?;
+    page.finish(cabinet, name)
 }

@@ -6,7 +6,7 @@ use Rattle.esa_command.specs.Doing.{one_of_each}
 use Rattle.esa_command.specs.Settled.{Settles}
 use Rattle.esa_command.specs.Stand.{stand}
 use Rattle.esa_command.specs.Work.{Write}
-use Rattle.esa_command.proofs.Settling.{writes_it}
+use Rattle.esa_command.proofs.Settling.{writes_whole}
 use Rattle.esa_analysing.specs.Analyse.{counted_text}
 use Rattle.esa_analysing.proofs.analyse_command.work_analyse.Goals as goal
 
@@ -21,4 +21,4 @@ returns g c =
     c.counted_line-line.ensures ∙ (λ i. numbered (codes "rows ") (c.rows.ensures i) ++ numbered (codes " unopened ") (c.unopened.ensures i)) in
     let all = c.write-saved.ensures in
     subst (λ line. Settles (one_of_each write line) before now (printer c.args.printer.now) (printer c.settle_one.new.printer) c.settle_one.result) text
-    (c.settle_one.ensures write before now refl (writes_it c.write-saved.result write before now all.cause all.written all.failed all.silent all.heard all.heard_broken))
+    (c.settle_one.ensures write before now refl (writes_whole c.write-saved.result write before now all.cause all.whole all.left all.heard all.heard_broken))

@@ -9,7 +9,7 @@ use Rattle.esa_command.specs.Doing.{WritesIt, AreWritten, AreBroken}
 use Rattle.esa_command.specs.Settled.{Settles}
 use Rattle.esa_command.specs.Stand.{stand}
 use Rattle.esa_command.specs.Work.{Write}
-use Rattle.esa_command.proofs.Settling.{writes_it, settled_unwritten}
+use Rattle.esa_command.proofs.Settling.{writes_whole, settled_unwritten}
 use Rattle.esa_shuffling.specs.Plan.{forecast_work}
 use Rattle.esa_shuffling.proofs.plan_command.work_plan.Goals as goal
 
@@ -23,7 +23,7 @@ returns-in-Ok g c =
     let name = c.in-Some.name.now in
     let write : Write = record { sink = Trace; name = name; bytes = trace_bytes c.accesses.result.now } in
     let all = c.write_trace.ensures in
-    let wrote = subst (WritesIt write before now) c.in-Ok.is (writes_it c.write_trace.result write before now all.cause all.written all.failed all.silent all.heard all.heard_broken) in
+    let wrote = subst (WritesIt write before now) c.in-Ok.is (writes_whole c.write_trace.result write before now all.cause all.whole all.left all.heard all.heard_broken) in
     let work = forecast_work (Some name) forecast.verdicts forecast.accesses in
     let named : option_map (λ name. name.now) c.args.trace ≡ Some name = ap (option_map (λ name. name.now)) c.in-Some.is in
     subst (λ name. Settles (forecast_work name forecast.verdicts forecast.accesses) before now (printer c.args.printer.now) (printer c.print_forecast-in-Ok.new.printer) c.settle-in-Ok.result) (sym named)
@@ -40,7 +40,7 @@ returns-in-Err g c =
     let name = c.in-Some.name.now in
     let write : Write = record { sink = Trace; name = name; bytes = trace_bytes c.accesses.result.now } in
     let all = c.write_trace.ensures in
-    let wrote = subst (WritesIt write before now) c.in-Err.is (writes_it c.write_trace.result write before now all.cause all.written all.failed all.silent all.heard all.heard_broken) in
+    let wrote = subst (WritesIt write before now) c.in-Err.is (writes_whole c.write_trace.result write before now all.cause all.whole all.left all.heard all.heard_broken) in
     let work = forecast_work (Some name) forecast.verdicts forecast.accesses in
     let named : option_map (λ name. name.now) c.args.trace ≡ Some name = ap (option_map (λ name. name.now)) c.in-Some.is in
     subst (λ name. Settles (forecast_work name forecast.verdicts forecast.accesses) before now (printer c.args.printer.now) (printer c.args.printer.now) (Stopped (status.OutsideFault role.Trace))) (sym named)

@@ -11,40 +11,40 @@ use Rattle.esa_trace.proofs.write.put_accesses.Goals as goal
 pub returns-in_err-put-clause-failed : goal.returns-in_err-put-clause-failed
 returns-in_err-put-clause-failed g c = λ before text under.
     let p = err_from_is_err_and c.from_residual.result c.from_residual.ensures.1 in
-    let done = c.loop-index.invariant.0 in
-    let so_far = c.loop-index.invariant.2 before text under in
-    rw p.1 (left_whole before c.args.name.now text done _ _ (g.K.Cabinet.told c.put.new.cabinet) c.loop-index.invariant.1 (c.in_err-put.ensures.failed before (text ++ done) so_far.0))
+    let done = c.loop-access.invariant.0 in
+    let so_far = c.loop-access.invariant.2 before text under in
+    rw p.1 (left_whole before c.args.name.now text done _ _ (g.K.Cabinet.told c.put.new.cabinet) c.loop-access.invariant.1 (c.in_err-put.ensures.failed before (text ++ done) so_far.0))
 
 pub returns-in_err-put-clause-heard_broken : goal.returns-in_err-put-clause-heard_broken
 returns-in_err-put-clause-heard_broken g c = λ before text writing.
     let p = err_from_is_err_and c.from_residual.result c.from_residual.ensures.1 in
-    let done = c.loop-index.invariant.0 in
-    rw p.1 (broken_whole before c.args.name.now text done _ _ (g.K.Cabinet.heard c.put.new.cabinet) c.loop-index.invariant.1 (c.in_err-put.ensures.heard_broken before (text ++ done) (c.loop-index.invariant.3 before text writing)))
+    let done = c.loop-access.invariant.0 in
+    rw p.1 (broken_whole before c.args.name.now text done _ _ (g.K.Cabinet.heard c.put.new.cabinet) c.loop-access.invariant.1 (c.in_err-put.ensures.heard_broken before (text ++ done) (c.loop-access.invariant.3 before text writing)))
 
-pub loop-index-init : goal.loop-index-init
-loop-index-init g c = (
+pub loop-access-init : goal.loop-access-init
+loop-access-init g c = (
   [],
   refl,
   λ before text under. (underway_none before c.args.name.now text c.args.page.now (g.K.Cabinet.told c.args.cabinet.now) under, refl),
   λ before text writing. writing_none before c.args.name.now text c.args.page.now (g.K.Cabinet.heard c.args.cabinet.now) writing,
 )
 
-pub loop-index-preserved : goal.loop-index-preserved
-loop-index-preserved g c =
-    let done = c.loop-index.invariant.0 in
+pub loop-access-preserved : goal.loop-access-preserved
+loop-access-preserved g c =
+    let done = c.loop-access.invariant.0 in
     let bytes = c.spell.result in (
       done ++ bytes,
-      (rw c.spell.ensures (access_step _ c.args.accesses.now c.loop-index.index _ _ done c.loop-index.invariant.1 c.loop-index-test.true refl)),
+      (rw c.spell.ensures (access_step _ c.args.accesses.now c.loop-access.access-index _ _ done c.loop-access.invariant.1 c.loop-access-test.true refl)),
       λ before text under.
-          let so_far = c.loop-index.invariant.2 before text under in (
+          let so_far = c.loop-access.invariant.2 before text under in (
             underway_more before c.args.name.now text done bytes c.put.new.self (g.K.Cabinet.told c.put.new.cabinet) (c.in_ok-put.ensures.added before (text ++ done) so_far.0),
             (c.in_ok-put.ensures.cause before (text ++ done) so_far.0).kept ∙ so_far.1,
           ),
       λ before text writing.
-          writing_more before c.args.name.now text done bytes c.put.new.self (g.K.Cabinet.heard c.put.new.cabinet) (c.in_ok-put.ensures.heard before (text ++ done) (c.loop-index.invariant.3 before text writing)),
+          writing_more before c.args.name.now text done bytes c.put.new.self (g.K.Cabinet.heard c.put.new.cabinet) (c.in_ok-put.ensures.heard before (text ++ done) (c.loop-access.invariant.3 before text writing)),
     )
 
 pub returns-clause-heard : goal.returns-clause-heard
 returns-clause-heard g c = λ before text writing.
-    writing_all before c.args.name.now text c.loop-index.invariant.0 _ _ c.loop-index.page (g.K.Cabinet.heard c.loop-index.cabinet) c.loop-index.invariant.1
-    (ap (flat_map access_bytes) (drop_all c.loop-index.index c.args.accesses.now (omega (arith, c.loop-index-test.false)))) (c.loop-index.invariant.3 before text writing)
+    writing_all before c.args.name.now text c.loop-access.invariant.0 _ _ c.loop-access.page (g.K.Cabinet.heard c.loop-access.cabinet) c.loop-access.invariant.1
+    (ap (flat_map access_bytes) (drop_all c.loop-access.access-index c.args.accesses.now (omega (arith, c.loop-access-test.false)))) (c.loop-access.invariant.3 before text writing)

@@ -6,29 +6,21 @@ use Rattle.esa_analyser.specs.Counted.{Counted}
 use Rattle.esa_analyser.specs.Kept.{keys_of, form_of}
 use Rattle.esa_analyser.specs.Rows.{IsDatabase}
 use Rattle.esa_analyser.proofs.KeptLaws.{kept_keys, IsDatabase-keys}
-use Rattle.esa_page.proofs.WritingLaws.{OnOk-whole, OnErr-left, silent-still}
 use Rattle.esa_analyser.proofs.KeptWriting.{kept_file}
 use Rattle.esa_analyser.proofs.analysis.Analysis.write.Goals as goal
 
 pub write_kept-requires-clause-few : goal.write_kept-requires-clause-few
 write_kept-requires-clause-few g c = omega (arith, c.self.invariant.few, c.self.invariant.small)
 
-pub returns-clause-written : goal.returns-clause-written
-returns-clause-written g c =
-    let before = g.K.Cabinet.told c.args.cabinet.now in
-    let now = g.K.Cabinet.told c.write_kept.new.cabinet in
+pub returns-clause-whole : goal.returns-clause-whole
+returns-clause-whole g c =
     let file = kept_file c.self.inside c.args.self.now c.unopened.result c.self.view_is c.unopened.ensures in
-    OnOk-whole c.write_kept.result before c.args.name.now _ now (subst (λ text. OnOk c.write_kept.result (IsWhole before c.args.name.now text now)) file c.write_kept.ensures.whole)
+    subst (λ text. OnOk c.write_kept.result (IsWhole (g.K.Cabinet.told c.args.cabinet.now) c.args.name.now text (g.K.Cabinet.told c.write_kept.new.cabinet))) file c.write_kept.ensures.whole
 
-pub returns-clause-failed : goal.returns-clause-failed
-returns-clause-failed g c =
-    let before = g.K.Cabinet.told c.args.cabinet.now in
-    let now = g.K.Cabinet.told c.write_kept.new.cabinet in
+pub returns-clause-left : goal.returns-clause-left
+returns-clause-left g c =
     let file = kept_file c.self.inside c.args.self.now c.unopened.result c.self.view_is c.unopened.ensures in
-    OnErr-left c.write_kept.result before c.args.name.now _ now (subst (λ text. OnErr c.write_kept.result (IsLeft before c.args.name.now text now)) file c.write_kept.ensures.left)
-
-pub returns-clause-silent : goal.returns-clause-silent
-returns-clause-silent g c = silent-still c.write_kept.result (g.K.Cabinet.told c.args.cabinet.now) c.args.name.now _ (g.K.Cabinet.told c.write_kept.new.cabinet) c.write_kept.ensures.whole c.write_kept.ensures.left
+    subst (λ text. OnErr c.write_kept.result (IsLeft (g.K.Cabinet.told c.args.cabinet.now) c.args.name.now text (g.K.Cabinet.told c.write_kept.new.cabinet))) file c.write_kept.ensures.left
 
 pub returns-clause-heard : goal.returns-clause-heard
 returns-clause-heard g c =

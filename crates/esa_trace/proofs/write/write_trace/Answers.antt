@@ -6,7 +6,7 @@ use Rattle.esa_page.proofs.HeardLaws.{HasBroken-longer}
 use Rattle.esa_page.proofs.UnderwayLaws.{IsLeft-longer}
 use Rattle.esa_spec.specs.Files.{access_bytes, trace_bytes}
 use Rattle.esa_trace.proofs.TraceLaws.{file_parts}
-use Rattle.esa_trace.proofs.write.write_file.Goals as goal
+use Rattle.esa_trace.proofs.write.write_trace.Goals as goal
 
 pub returns-in_err-page-clause-heard_broken : goal.returns-in_err-page-clause-heard_broken
 returns-in_err-page-clause-heard_broken g c =
