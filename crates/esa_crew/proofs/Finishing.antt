@@ -26,7 +26,8 @@ use Rattle.esa_spec.specs.declared.event.Verdict.TheVariants as verdicts
 use Rattle.esa_stash.specs.Stash.{empty_stash}
 use Rattle.esa_vault.specs.Seals.{opens}
 use Rattle.esa_floor.specs.Parts.{Parts, begun_as, ended_as, no_counts, nothing_counted}
-use Rattle.esa_floor.specs.Standing.{Begins, EndsAs, EndsWith, IsAt, IsAtWork, IsOf, IsSpread, Stands, StopsAt, attempt_begun, items_in, lists_before, turns_made}
+use Rattle.esa_floor.specs.Standing.{EndsAs, IsAt, IsAtWork, IsOf, IsSpread, Stands, StopsAt, attempt_begun, lists_before, turns_made}
+use Rattle.esa_spec.specs.Fronts.{Begins, EndsWith, items_in}
 use Rattle.esa_floor.specs.declared.turn.Outcome.{Outcome}
 use Rattle.esa_floor.specs.declared.turn.Outcome.TheVariants as outcome
 use Rattle.esa_floor.specs.declared.turn.Stop.{Stop}

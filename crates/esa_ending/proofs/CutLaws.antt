@@ -11,7 +11,8 @@ use Rattle.esa_spec.specs.Traces.{spread, rest, drain, attempt_trace, is_failed,
 use Rattle.esa_spec.specs.Turns.{order}
 use Rattle.esa_spec.specs.Verdicts.{failing, is_finished, is_good, left, verdict}
 use Rattle.esa_ending.specs.Endings.{Succeeds, Overflows, IsCutAt}
-use Rattle.esa_ending.specs.Seen.{Seen, IsCalm, stored, HasHistory, Begins, EndsWith, AreCut, verdict_in}
+use Rattle.esa_ending.specs.Seen.{Seen, IsCalm, stored, HasHistory, AreCut, verdict_in}
+use Rattle.esa_spec.specs.Fronts.{Begins, EndsWith}
 use Rattle.esa_ending.proofs.FrontLaws.{behind, joined-front, onward, whole}
 
 -- an attempt that isn't finished has no accesses behind its turns

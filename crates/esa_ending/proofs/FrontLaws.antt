@@ -16,7 +16,7 @@ use Rattle.esa_laws.proofs.Tests.{bit}
 use Rattle.esa_spec.specs.Draws.{Draw}
 use Rattle.esa_spec.specs.Files.{trace_bytes}
 use Rattle.esa_spec.specs.Traces.{attempts, good_attempt, load, scans, trace, written_input, written_nonce, written_nonces}
-use Rattle.esa_ending.specs.Seen.{Begins}
+use Rattle.esa_spec.specs.Fronts.{Begins}
 
 pub whole : {X : Type 0} (xs ys : List X) → xs ≡ ys → Begins xs ys
 whole xs ys same = ([], sym same ∙ sym (append-nil xs))

@@ -10,7 +10,8 @@ use Rattle.esa_spec.specs.Draws.{Draw}
 use Rattle.esa_spec.specs.Traces.{all_failed, good_attempt, trace, written_input}
 use Rattle.esa_spec.specs.Turns.{order}
 use Rattle.esa_spec.specs.declared.event.Verdict.{Verdict}
-use Rattle.esa_ending.specs.Seen.{Seen, Rises, Stays, IsCalm, stored, HasHistory, Begins, EndsWith, AreCut, turns_in, verdict_in, items_in, come_out}
+use Rattle.esa_ending.specs.Seen.{Seen, Rises, Stays, IsCalm, stored, HasHistory, AreCut, turns_in, verdict_in, come_out}
+use Rattle.esa_spec.specs.Fronts.{Begins, EndsWith, items_in}
 
 -- attempt a succeeds: it is the first that is finished and good
 pub record Succeeds (p : Sizes) (ds : ℕ → Draw) (hs : List (List ℕ)) (seen : Seen) (a : ℕ) : Type 0 where

@@ -49,14 +49,6 @@ history_of p hs = p.workers ∷ flat_map (λ (h : List ℕ). h ++ p.workers ∷ 
 abbrev pub HasHistory : Sizes → Seen → Type 0
 HasHistory p seen = seen.history ≡ history_of p (stored p seen)
 
--- a list begins another one
-abbrev pub Begins : {X : Type 0} → List X → List X → Type 0
-Begins {X} front whole = (more : List X) × (whole ≡ front ++ more)
-
--- the list ends with this access
-abbrev pub EndsWith : List Access → Access → Type 0
-EndsWith accesses access = (before : List Access) × (accesses ≡ before ++ access ∷ [])
-
 -- the turns of a run that was cut short: the lists of the attempts before the last are whole, and the last is a front
 abbrev pub AreCut : List (List ℕ) → List (List ℕ) → Type 0
 AreCut [] whole = Unit {0}
@@ -71,16 +63,6 @@ turns_in hs a = slice_index_or hs a []
 -- how attempt a ends
 abbrev pub verdict_in : Sizes → (ℕ → Draw) → List (List ℕ) → ℕ → Verdict
 verdict_in p ds hs a = verdict p (ds a) (turns_in hs a)
-
--- how many items stand before the dummies in the block of an access, in an attempt with this order of exchanges
-abbrev pub items_at : Sizes → Draw → List ℕ → Region → ℕ → ℕ
-items_at p d o Input index = 0
-items_at p d o Mid index = length (chunk p d o (exchange_of o (index / p.b)) (index % p.b))
-items_at p d o Tail index = backlog p d o p.b index
-items_at p d o Output index = size p index
-
-abbrev pub items_in : Sizes → Draw → List ℕ → Access → ℕ
-items_in p d o access = items_at p d o access.region access.index
 
 -- the records of a batch in the order in which an attempt with these turns puts them out
 abbrev pub come_out : {X : Type 0} → Sizes → Draw → List ℕ → List X → List X

@@ -3,7 +3,7 @@
 ghost use Rattle.std.specs.Prelude.{◌≡◌, ℕ, ◌∷◌, [], false, replicate};
 ghost use Rattle.esa_ending.specs.Cases.{base_draws, seen_after, seen_at_fault, seen_in_load, stash_zero};
 ghost use Rattle.esa_ending.specs.Endings.{Succeeds, ComesOut, Overflows, DeviceFails, BlockIsTampered, BatchFails};
-ghost use Rattle.esa_ending.specs.Seen.{items_in};
+ghost use Rattle.esa_spec.specs.Fronts.{items_in};
 ghost use Rattle.esa_params.specs.declared.slot.Op.TheVariants.{Read};
 ghost use Rattle.esa_params.specs.declared.slot.Region.TheVariants.{Mid, Tail, Output};
 ghost use Rattle.esa_spec.specs.Cases.{accessed, base};

@@ -2,7 +2,8 @@
 
 ghost use Rattle.std.specs.Prelude.{◌≡◌, ℕ, ◌+◌, ◌*◌, ◌<◌, ◌≤◌, ◌==◌, ◌⊎◌, Bool, List, length, count_by};
 ghost use Rattle.esa_ending.specs.Endings.{Succeeds, Overflows, DeviceFails, BlockIsTampered, BatchFails};
-ghost use Rattle.esa_ending.specs.Seen.{Seen, Begins};
+ghost use Rattle.esa_ending.specs.Seen.{Seen};
+ghost use Rattle.esa_spec.specs.Fronts.{Begins};
 ghost use Rattle.esa_params.specs.Sizes.{Sizes, ArePlanned};
 ghost use Rattle.esa_params.specs.Slots.{greatest_trace, writes_number};
 ghost use Rattle.esa_params.specs.declared.slot.Access.{Access};

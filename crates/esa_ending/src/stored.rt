@@ -2,7 +2,8 @@
 
 ghost use Rattle.std.specs.Prelude.{◌≡◌, ℕ, ◌+◌, ◌<◌, true, Some, List, [], ◌++◌, length, map, take};
 ghost use Rattle.esa_ending.specs.Endings.{Succeeds, Overflows, IsCutAt, BatchFails};
-ghost use Rattle.esa_ending.specs.Seen.{Seen, Rises, Stays, IsCalm, stored, HasHistory, Begins, EndsWith, AreCut, verdict_in};
+ghost use Rattle.esa_ending.specs.Seen.{Seen, Rises, Stays, IsCalm, stored, HasHistory, AreCut, verdict_in};
+ghost use Rattle.esa_spec.specs.Fronts.{Begins, EndsWith};
 ghost use Rattle.esa_params.specs.Sizes.{Sizes, below};
 ghost use Rattle.esa_params.specs.declared.slot.Access.{Access};
 ghost use Rattle.esa_spec.specs.Draws.{Draw};

@@ -19,7 +19,8 @@ use Rattle.esa_vault.specs.Seals.{opens}
 use Rattle.esa_floor.specs.Acts.{WorksOn, one_more}
 use Rattle.esa_floor.specs.Marks.{code_of, mark_of}
 use Rattle.esa_floor.specs.Parts.{Parts, with_entry}
-use Rattle.esa_floor.specs.Standing.{Begins, EndsAs, EndsWith, IsAt, IsAtWork, IsOf, StopsAt, attempt_begun, items_in, lists_before, turns_made}
+use Rattle.esa_floor.specs.Standing.{EndsAs, IsAt, IsAtWork, IsOf, StopsAt, attempt_begun, lists_before, turns_made}
+use Rattle.esa_spec.specs.Fronts.{Begins, EndsWith, items_in}
 use Rattle.esa_floor.specs.Workers.{IsInRound, WorkerStands}
 use Rattle.esa_floor.specs.Working.{Working}
 use Rattle.esa_floor.specs.declared.turn.Outcome.{Outcome}

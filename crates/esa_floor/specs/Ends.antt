@@ -6,7 +6,8 @@ use Rattle.esa_spec.specs.Draws.{Draw, IsDrawn}
 use Rattle.esa_spec.specs.Histories.{begun}
 use Rattle.esa_spec.specs.Traces.{all_failed, attempt_trace, attempts, load}
 use Rattle.esa_floor.specs.Parts.{Parts}
-use Rattle.esa_floor.specs.Standing.{Begins, IsOf, lists_before, turns_made}
+use Rattle.esa_floor.specs.Standing.{IsOf, lists_before, turns_made}
+use Rattle.esa_spec.specs.Fronts.{Begins}
 
 -- attempt a is at work, of attempts that all failed before it, and has made these accesses. The history has room for an
 -- entry more

@@ -43,24 +43,6 @@ pub record IsOf {V : Type 0} (p : Sizes) (f : Parts V) : Type 0 where
   pub room : greatest_trace p ≤ length f.recorder.trace + f.recorder.room
   pub entries : length f.history ≤ f.room
 
--- a list begins another one
-abbrev pub Begins : List Access → List Access → Type 0
-Begins front whole = (more : List Access) × (whole ≡ front ++ more)
-
--- how many items stand before the dummies in the block of an access, in an attempt with this order of exchanges
-abbrev pub items_at : Sizes → Draw → List ℕ → Region → ℕ → ℕ
-items_at p d o Input index = 0
-items_at p d o Mid index = length (chunk p d o (exchange_of o (index / p.b)) (index % p.b))
-items_at p d o Tail index = backlog p d o p.b index
-items_at p d o Output index = size p index
-
-abbrev pub items_in : Sizes → Draw → List ℕ → Access → ℕ
-items_in p d o access = items_at p d o access.region access.index
-
--- the list ends with this access
-abbrev pub EndsWith : List Access → Access → Type 0
-EndsWith accesses access = (before : List Access) × (accesses ≡ before ++ access ∷ [])
-
 -- nothing was begun and nothing was done
 pub record IsNew {V : Type 0} (faults : V → ℕ) (f : Parts V) : Type 0 where
   pub none_begun : begun f.plan.workers f.history ≡ 0

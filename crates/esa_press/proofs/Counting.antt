@@ -8,7 +8,7 @@ use Rattle.std.proofs.lemmas.List.FromFn.{get_or-map-range_with_len, length-map-
 use Rattle.std.proofs.lemmas.List.Sums.{sum-map, sum_by-append, sum_by-cons}
 use Rattle.esa_compress.specs.Imported.{parts_of}
 use Rattle.esa_floor.specs.Parts.{count_at}
-use Rattle.esa_floor.specs.Standing.{items_in}
+use Rattle.esa_spec.specs.Fronts.{items_in}
 use Rattle.esa_laws.proofs.FinishLaws.{none-found}
 use Rattle.esa_laws.proofs.PlaceLaws.{position-in}
 use Rattle.esa_laws.proofs.QueueLaws.{batch, leaving-more}

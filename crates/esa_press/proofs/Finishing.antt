@@ -10,7 +10,8 @@ use Rattle.esa_device.specs.Recording.{Recorded}
 use Rattle.esa_floor.specs.Ends.{HasMade, IsOver}
 use Rattle.esa_floor.specs.Keeping.{AreChunksStored, HasInput, QueuesHold, SlotsHold}
 use Rattle.esa_floor.specs.Parts.{Parts}
-use Rattle.esa_floor.specs.Standing.{IsAt, IsAtWork, IsOf, IsSpread, StopsAt, items_in, lists_before, turns_made}
+use Rattle.esa_floor.specs.Standing.{IsAt, IsAtWork, IsOf, IsSpread, StopsAt, lists_before, turns_made}
+use Rattle.esa_spec.specs.Fronts.{items_in}
 use Rattle.esa_floor.specs.declared.turn.Outcome.{Outcome}
 use Rattle.esa_floor.specs.declared.turn.Stop.{Stop}
 use Rattle.esa_laws.proofs.FinishLaws.{finished-where, none-found}

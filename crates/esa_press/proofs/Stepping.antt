@@ -13,7 +13,7 @@ use Rattle.esa_compress.proofs.ImportLaws.{few-reached, import-counted, put-coun
 use Rattle.esa_compress.specs.Imported.{parts_of}
 use Rattle.esa_device.specs.Recording.{Recorded}
 use Rattle.esa_envelope.specs.declared.keys.Keys.{Keys}
-use Rattle.esa_floor.specs.Standing.{items_in}
+use Rattle.esa_spec.specs.Fronts.{items_in}
 use Rattle.esa_laws.proofs.WalkLaws.{steps_verdict, steps_verdict-append, walk-append}
 use Rattle.esa_params.specs.Sizes.{Sizes, below, first, size}
 use Rattle.esa_params.specs.Slots.{access_of, at}

@@ -2,7 +2,8 @@
 use Rattle.std.specs.Prelude.{◌≡◌, ℕ, ◌*◌, ◌<◌, true, List, length, Some, None}
 use Rattle.esa_floor.specs.Ends.{HasMade, IsOver}
 use Rattle.esa_floor.specs.Parts.{Parts}
-use Rattle.esa_floor.specs.Standing.{Begins, EndsWith, Stands, items_in, turns_made}
+use Rattle.esa_floor.specs.Standing.{Stands, turns_made}
+use Rattle.esa_spec.specs.Fronts.{Begins, EndsWith, items_in}
 use Rattle.esa_params.specs.Sizes.{Sizes}
 use Rattle.esa_params.specs.declared.slot.Access.{Access}
 use Rattle.esa_spec.specs.Draws.{Draw}

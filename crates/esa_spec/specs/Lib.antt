@@ -2,6 +2,7 @@ pub mod Cases
 pub mod Completion
 pub mod Draws
 pub mod Files
+pub mod Fronts
 pub mod Histories
 pub mod Lines
 pub mod Places
