@@ -1,14 +1,12 @@
 -- What is seen of a run, and the words in which its ends are told.
-use Rattle.std.specs.Prelude.{◌≡◌, ℕ, ◌<◌, ◌/◌, ◌%◌, List, [], ◌∷◌, ◌++◌, length, filter_map, flat_map, slice_get, slice_index_or}
+use Rattle.std.specs.Prelude.{◌≡◌, ℕ, ◌<◌, List, [], ◌∷◌, ◌++◌, filter_map, flat_map, slice_get, slice_index_or}
 use Rattle.esa_outside.specs.Cause.{Rose}
-use Rattle.esa_params.specs.Sizes.{Sizes, size}
+use Rattle.esa_params.specs.Sizes.{Sizes}
 use Rattle.esa_params.specs.declared.slot.Access.{Access}
-use Rattle.esa_params.specs.declared.slot.Region.{Region}
-use Rattle.esa_params.specs.declared.slot.Region.TheVariants.{Input, Mid, Tail, Output}
 use Rattle.esa_spec.specs.Draws.{Draw}
+use Rattle.esa_spec.specs.Fronts.{Begins}
 use Rattle.esa_spec.specs.Histories.{lists}
-use Rattle.esa_spec.specs.Lines.{backlog, chunk}
-use Rattle.esa_spec.specs.Places.{exchange_of, places}
+use Rattle.esa_spec.specs.Places.{places}
 use Rattle.esa_spec.specs.Verdicts.{verdict}
 use Rattle.esa_spec.specs.declared.event.Verdict.{Verdict}
 

@@ -1,13 +1,13 @@
 -- What a floor stands for: the history of its turns decides everything else that it holds.
-use Rattle.std.specs.Prelude.{◌≡◌, ℕ, ◌+◌, ◌-◌, ◌/◌, ◌%◌, ◌<◌, ◌≤◌, ◌==◌, min, true, false, List, [], ◌∷◌, ◌++◌, length, take, count_by, slice_index_or, All, Option, Some, None}
+use Rattle.std.specs.Prelude.{◌≡◌, ℕ, ◌+◌, ◌-◌, ◌<◌, ◌≤◌, ◌==◌, min, true, false, List, [], ◌∷◌, ◌++◌, length, take, count_by, slice_index_or, All, Option, Some, None}
 use Rattle.esa_outside.specs.Cause.{Rose}
-use Rattle.esa_params.specs.Sizes.{Sizes, size}
+use Rattle.esa_params.specs.Sizes.{Sizes}
 use Rattle.esa_params.specs.Slots.{at, greatest_trace, item_length, slot_number}
 use Rattle.esa_params.specs.declared.slot.Access.{Access}
 use Rattle.esa_params.specs.declared.slot.Op.TheVariants.{Read as Reads}
-use Rattle.esa_params.specs.declared.slot.Region.{Region}
-use Rattle.esa_params.specs.declared.slot.Region.TheVariants.{Input, Mid, Tail, Output}
+use Rattle.esa_params.specs.declared.slot.Region.TheVariants.{Input}
 use Rattle.esa_spec.specs.Draws.{Draw, IsDrawn}
+use Rattle.esa_spec.specs.Fronts.{Begins, EndsWith, items_in}
 use Rattle.esa_spec.specs.Histories.{begun, latest, lists}
 use Rattle.esa_spec.specs.Lines.{backlog, chunk, overflows}
 use Rattle.esa_spec.specs.Places.{exchange_of}
