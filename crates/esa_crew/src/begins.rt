@@ -29,7 +29,7 @@ pub fn begin<V: Device, G: Told, C: Coins>(
     ensures queues { QueuesHold G.draws floor.new }
 {
     floor.begin(attempt);
-    for place in 0..workers.len() {
-        workers[place].begin(attempt);
+    for worker in workers.iter_mut() {
+        worker.begin(attempt);
     }
 }
