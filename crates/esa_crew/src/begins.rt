@@ -30,7 +30,7 @@ pub fn begin<V: Device, G: Told, C: Coins>(
     ensures slots { SlotsHold G.draws floor.new }
 {
     floor.begin(attempt);
-    for place in 0..workers.len() {
-        workers[place].begin(attempt);
+    for worker in workers.iter_mut() {
+        worker.begin(attempt);
     }
 }

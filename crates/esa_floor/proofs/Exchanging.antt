@@ -10,7 +10,7 @@ use Rattle.esa_params.specs.Sizes.{Sizes, below, first, places_of, size}
 use Rattle.esa_report.specs.declared.item.Item.{Item}
 use Rattle.esa_spec.specs.Draws.{Draw}
 use Rattle.esa_spec.specs.Lines.{backlog, chosen_places, chunk, queued, stashed}
-use Rattle.esa_stash.proofs.Lines.{sum_by-same}
+use Rattle.esa_laws.proofs.Ranges.{sum-below-same}
 use Rattle.esa_stash.specs.Stash.{Held, coming, count, exchanged, line, queue_at, rest, targets_of, total}
 use Rattle.esa_floor.specs.Exchanges.{AreOf}
 
@@ -42,7 +42,7 @@ module _ (p : Sizes) (d : Draw) (o : List ℕ) (j : ℕ) (held : Held) (targets 
     total_is =
         fold-map (λ (a : ℕ) (q : List Item). a + length q) (rest held (targets, items)) 0 (targets_of held)
         ∙ ap (λ (n : ℕ). sum_by (λ i. length (rest held (targets, items) i)) (below n)) of.queue_each
-        ∙ sum_by-same (λ i. length (rest held (targets, items) i)) (backlog p d (o ++ j ∷ []) (suc (length o))) p.b rest-length
+        ∙ sum-below-same (λ i. length (rest held (targets, items) i)) (backlog p d (o ++ j ∷ []) (suc (length o))) p.b rest-length
 
     pub waits_after : (i : ℕ) → i < p.b → length (queue_at (exchanged held (targets, items)) i) ≡ backlog p d (o ++ j ∷ []) (length (o ++ j ∷ [])) i
     waits_after i inside =

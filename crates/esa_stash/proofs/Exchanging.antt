@@ -18,23 +18,14 @@ use Rattle.esa_stash.specs.Since.{batches, tail_length, HasTail, IsSince, last_c
 use Rattle.esa_stash.specs.Dealing.{queue_of, line_after, left_of, left_after, arrivals, AreDealt}
 use Rattle.esa_stash.proofs.Partitions.{occurrences-cons}
 use Rattle.esa_stash.proofs.Rising.{occurrences-range, map-replicate}
-use Rattle.esa_stash.proofs.TotalLemmas.{sum_by-below, range-more}
-use Rattle.esa_stash.proofs.Lines.{sum_by-same, sum_by-least, queues_are, queued_together}
+use Rattle.esa_stash.proofs.TotalLemmas.{sum_by-below}
+use Rattle.esa_laws.proofs.Ranges.{below-suc, map-below-same, sum-below-same}
+use Rattle.esa_stash.proofs.Lines.{sum_by-least, queues_are, queued_together}
 use Rattle.esa_stash.proofs.Drawing.{queue_of_chain}
 use Rattle.esa_stash.proofs.Dealt.{free_cells}
 use Rattle.esa_stash.proofs.Rows.{joined_chunks}
 
 -- lists over the same numbers
-below-suc : (n : ℕ) → below (suc n) ≡ below n ++ n ∷ []
-below-suc n = range-more 0 n ∙ ap (λ (k : ℕ). below n ++ k ∷ []) (omega arith)
-
-map-same : {X : Type 0} (f g : ℕ → X) (n : ℕ) → ((i : ℕ) → i < n → f i ≡ g i) → map f (below n) ≡ map g (below n)
-map-same f g zero each = refl
-map-same {X} f g (suc n) each =
-    ap (map f) (below-suc n) ∙ map_push f (below n) n
-    ∙ ap₂ (λ (l : List X) (x : X). l ++ x ∷ []) (map-same f g n (λ i inside. each i (omega arith))) (each n (omega arith))
-    ∙ sym (ap (map g) (below-suc n) ∙ map_push g (below n) n)
-
 flat_map-same : {X : Type 0} (f g : ℕ → List X) (n : ℕ) → ((i : ℕ) → i < n → f i ≡ g i) → flat_map f (below n) ≡ flat_map g (below n)
 flat_map-same f g zero each = refl
 flat_map-same {X} f g (suc n) each =
@@ -56,7 +47,7 @@ sum_by-two f g (suc n) =
 -- each target is counted once, if at all
 one_target : (t n : ℕ) → sum_by (λ i. cond (eqb t i) 1 0) (below n) ≤ 1
 one_target t n =
-    let same = sum_by-same (λ i. cond (eqb t i) 1 0) (λ i. cond (eqb i t) 1 0) n (λ i _. ap (λ (b : Bool). cond {A = ℕ} b 1 0) (eqb-sym t i)) in
+    let same = sum-below-same (λ i. cond (eqb t i) 1 0) (λ i. cond (eqb i t) 1 0) n (λ i _. ap (λ (b : Bool). cond {A = ℕ} b 1 0) (eqb-sym t i)) in
     let once = occurrences-range t 0 n (omega arith) in
     grind arith
   where
@@ -80,7 +71,7 @@ arrivals-together (t ∷ ts) n =
     let rest = arrivals-together ts n in
     let one = one_target t n in
     let both = sum_by-two (λ i. cond (eqb t i) 1 0) (arrivals ts) n in
-    let split = sum_by-same (arrivals (t ∷ ts)) (λ i. cond (eqb t i) 1 0 + arrivals ts i) n (λ i _. occurrences-cons i t ts) in
+    let split = sum-below-same (arrivals (t ∷ ts)) (λ i. cond (eqb t i) 1 0 + arrivals ts i) n (λ i _. occurrences-cons i t ts) in
     omega arith
 
 -- a queue is as long as its target's tail
@@ -135,12 +126,12 @@ module _ (held : Held) (all : List Handed) (last : Handed) (since : IsSince all 
   chunks_are = flat_map-same (padded_chunk held last) (last_chunk held.c all last) (length held.queues) (λ i inside. ap (padded held.c) (chunk_is i inside))
 
   pub counts_are : counts held last ≡ last_counts held all last
-  counts_are = map-same (count held last) (last_count held.c all last) (length held.queues) (λ i inside. ap length (chunk_is i inside))
+  counts_are = map-below-same (count held last) (last_count held.c all last) (length held.queues) (λ i inside. ap length (chunk_is i inside))
 
   pub total_is : total (exchanged held last) ≡ total_backlog held all last
   total_is =
       fold-map (λ (a : ℕ) (q : List Item). a + length q) (rest held last) 0 (targets_of held)
-      ∙ sum_by-same (λ i. length (rest held last i)) (backlog held.c all last) (length held.queues) backlog_is
+      ∙ sum-below-same (λ i. length (rest held last i)) (backlog held.c all last) (length held.queues) backlog_is
 
 -- nothing was handed over
 pub IsSince-empty : (b c s : ℕ) → IsSince [] (empty_stash b c s)
@@ -166,7 +157,7 @@ none_queued a (suc n) = ap (λ (qs : List (List Item)). [] ∷ qs) (none_queued 
 pub seen_cleared : (arena : Arena) (c b : ℕ) → length arena.chains ≡ b → ((i : ℕ) → i < b → queue_of arena i ≡ []) → seen arena c ≡ empty_stash b c arena.room
 seen_cleared arena c b chains cleared =
     ap (λ (qs : List (List Item)). record { c = c; s = arena.room; queues = qs })
-    (queues_are arena ∙ ap (λ (n : ℕ). map (queue_of arena) (below n)) chains ∙ map-same (queue_of arena) (λ (i : ℕ). nil) b cleared ∙ none_queued 0 b)
+    (queues_are arena ∙ ap (λ (n : ℕ). map (queue_of arena) (below n)) chains ∙ map-below-same (queue_of arena) (λ (i : ℕ). nil) b cleared ∙ none_queued 0 b)
 
 -- ---- by an arena
 module _ (arena : Arena) (c b : ℕ) (ts : List ℕ) (xs : List Item) (chains : length arena.chains ≡ b) (each : length xs ≡ length ts) where
@@ -192,7 +183,7 @@ module _ (arena : Arena) (c b : ℕ) (ts : List ℕ) (xs : List Item) (chains : 
       omega arith
 
   pub total_of_lengths : sum_by (left_after arena c (map (arrivals ts) (below b))) (below b) ≡ sum_by (left_of c (line_after arena ts xs)) (below b)
-  total_of_lengths = sum_by-same (left_after arena c (map (arrivals ts) (below b))) (left_of c (line_after arena ts xs)) b one_left
+  total_of_lengths = sum-below-same (left_after arena c (map (arrivals ts) (below b))) (left_of c (line_after arena ts xs)) b one_left
 
   -- no more stay than were queued and came
   pub total_bounded : IsShared arena → sum_by (left_of c (line_after arena ts xs)) (below b) ≤ arena.room + length ts
@@ -217,7 +208,7 @@ module _ (arena : Arena) (c b : ℕ) (ts : List ℕ) (xs : List Item) (chains : 
       queues_left =
           queues_are new
           ∙ ap (λ (n : ℕ). map (queue_of new) (below n)) chains_after
-          ∙ map-same (queue_of new) (rest before (ts, xs)) b (λ i inside. (dealt i inside).queue)
+          ∙ map-below-same (queue_of new) (rest before (ts, xs)) b (λ i inside. (dealt i inside).queue)
           ∙ ap (λ (n : ℕ). map (rest before (ts, xs)) (below n)) (sym many)
 
       pub chunks_left : chunks' ≡ chunks before (ts, xs)

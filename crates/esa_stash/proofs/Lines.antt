@@ -10,6 +10,7 @@ use Rattle.esa_report.specs.declared.item.Item.{Item}
 use Rattle.esa_report.specs.Item.{dummy_item}
 use Rattle.esa_stash.specs.Arena.{Arena, queues_of, items_in}
 use Rattle.esa_stash.specs.Dealing.{queue_of, line_after, left_of, with_item, IsDealt, AreDealt}
+use Rattle.esa_laws.proofs.Ranges.{sum-below-same}
 use Rattle.esa_stash.proofs.TotalLemmas.{sum_by-below}
 
 -- the chosen of two lists, one behind the other
@@ -23,15 +24,7 @@ chosen-append i (t ∷ ts) us (x ∷ xs) ys long = both (eqb t i) (chosen-append
     both true rest = ap (λ (l : List Item). x ∷ l) rest
     both false rest = rest
 
--- sums over the same numbers
-pub sum_by-same : (f g : ℕ → ℕ) (n : ℕ) → ((i : ℕ) → i < n → f i ≡ g i) → sum_by f (below n) ≡ sum_by g (below n)
-sum_by-same f g zero each = refl
-sum_by-same f g (suc n) each =
-    let more : suc n ≡ n + 1 = omega arith in
-    let rest = sum_by-same f g n (λ i below. each i (omega arith)) in
-    let last = each n (omega arith) in
-    ap (λ (k : ℕ). sum_by f (below k)) more ∙ sum_by-below f n ∙ omega arith ∙ sym (sum_by-below g n) ∙ ap (λ (k : ℕ). sum_by g (below k)) (sym more)
-
+-- sums of what is no greater anywhere
 pub sum_by-least : (f g : ℕ → ℕ) (n : ℕ) → ((i : ℕ) → f i ≤ g i) → sum_by f (below n) ≤ sum_by g (below n)
 sum_by-least f g zero each = omega arith
 sum_by-least f g (suc n) each =
@@ -139,6 +132,6 @@ module _ (arena : Arena) (ts : List ℕ) (xs : List Item) (k : ℕ) (t : ℕ) (x
         let each : (i : ℕ) → left_of c (line_after arena (take k ts) (take k xs)) i ≤ left_of c (line_after arena ts xs) i =
         λ i. (let long_i = so_long i in let a = length-drop c (line_after arena (take k ts) (take k xs) i) in let b = length-drop c (line_after arena ts xs i) in omega arith)
         in
-        let now = queued_together after b chains ∙ sum_by-same (λ i. length (queue_of after i)) (left_of c (line_after arena (take k ts) (take k xs))) b (λ i inside. ap length (dealt i inside).queue) in
+        let now = queued_together after b chains ∙ sum-below-same (λ i. length (queue_of after i)) (left_of c (line_after arena (take k ts) (take k xs))) b (λ i inside. ap length (dealt i inside).queue) in
         let sums = sum_by-less (left_of c (line_after arena (take k ts) (take k xs))) (left_of c (line_after arena ts xs)) b t each t_in less in
         omega arith

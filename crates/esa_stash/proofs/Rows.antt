@@ -10,7 +10,7 @@ use borrow.Rule.Slice.PartMut.{put_mid}
 use Rattle.esa_stash.specs.Sizes.{below}
 use Rattle.esa_report.specs.declared.item.Item.{Item}
 use Rattle.esa_stash.specs.Dealing.{chunk_at}
-use Rattle.esa_stash.proofs.TotalLemmas.{range-more}
+use Rattle.esa_laws.proofs.Ranges.{below-suc}
 
 take-add : (m n : ℕ) (xs : List Item) → take (m + n) xs ≡ take m xs ++ take n (drop m xs)
 take-add m n xs =
@@ -80,13 +80,12 @@ front c (suc b) f chunks within each =
     let next = suc-mul b c in
     let before = front c b f chunks (omega arith) (λ i below. each i (omega arith)) in
     let last = sym (chunk_is c chunks b) ∙ each b (omega arith) in
-    let range : below (suc b) ≡ below b ++ b ∷ [] = range-more 0 b ∙ ap (λ (k : ℕ). below b ++ k ∷ []) (omega arith) in
     ap (λ (n : ℕ). take n chunks) next
     ∙ take-add (b * c) c chunks
     ∙ ap₂ (λ (l k : List Item). l ++ k) before last
     ∙ ap (λ (l : List Item). flat_map f (below b) ++ l) (sym (append-nil (f b)))
     ∙ sym (flat_map-append f (below b) (b ∷ []))
-    ∙ ap (flat_map f) (sym range)
+    ∙ ap (flat_map f) (sym (below-suc b))
 
 pub joined_chunks : (c b : ℕ) (f : ℕ → List Item) (chunks : List Item) → length chunks ≡ b * c → ((i : ℕ) → i < b → chunk_at c chunks i ≡ f i) → chunks ≡ flat_map f (below b)
 joined_chunks c b f chunks long each = sym (take_all (b * c) chunks (omega arith)) ∙ front c b f chunks (omega arith) each

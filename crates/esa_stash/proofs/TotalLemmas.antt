@@ -1,29 +1,21 @@
 -- Sums over the numbers below a limit, and how often each target comes.
-use Rattle.std.proofs.Common.{◌≡◌, ℕ, zero, suc, ◌+◌, ◌-◌, ◌<◌, ◌≤◌, List, [], ◌∷◌, ◌++◌, length, get_or, set, map, take, replicate, sum_by, eqb, Bool, cond, refl, sym, ap, ◌∙◌, arith, inl, inr, get_or-set_other, get_or-set_same}
+use Rattle.std.proofs.Common.{◌≡◌, ℕ, zero, suc, ◌+◌, ◌-◌, ◌<◌, ◌≤◌, List, [], ◌∷◌, length, get_or, set, map, take, replicate, sum_by, eqb, Bool, cond, refl, sym, ap, ◌∙◌, arith, inl, inr, get_or-set_other, get_or-set_same}
 use Rattle.std.proofs.lemmas.List.{take_more, length-set}
-use Rattle.std.proofs.lemmas.List.Sums.{sum_by_push, count_by-le-length}
+use Rattle.std.proofs.lemmas.List.Sums.{count_by-le-length}
 use Rattle.std.proofs.lemmas.List.FromFn.{get_or-map-range_with_len, length-map-range_with_len, fill_by_all}
 use Rattle.std.proofs.lemmas.Bool.{cases_eq, eq-eqb, ne_eqb}
 use Rattle.std.specs.List.{range_with_len}
+use Rattle.esa_laws.proofs.Ranges.{sum-below-suc}
 use Rattle.esa_stash.specs.Sizes.{below}
 use Rattle.esa_stash.specs.Links.{occurrences}
 use Rattle.esa_stash.specs.Dealing.{arrivals}
 use Rattle.esa_stash.proofs.Partitions.{occurrences-cons, occurrences-append}
 
-pub range-more : (a n : ℕ) → range_with_len a (suc n) ≡ range_with_len a n ++ (a + n) ∷ []
-range-more a zero = ap (λ (k : ℕ). k ∷ []) (omega arith)
-range-more a (suc n) =
-    let same : a + 1 + n ≡ a + suc n = omega arith in
-    ap (λ (l : List ℕ). a ∷ l) (range-more (a + 1) n ∙ ap (λ (k : ℕ). range_with_len (a + 1) n ++ k ∷ []) same)
-
 -- one number more
 pub sum_by-below : (f : ℕ → ℕ) (n : ℕ) → sum_by f (below (n + 1)) ≡ sum_by f (below n) + f n
 sum_by-below f n =
     let more : n + 1 ≡ suc n = omega arith in
-    ap (λ (k : ℕ). sum_by f (below k)) more
-    ∙ ap (sum_by f) (range-more 0 n)
-    ∙ sum_by_push f (below n) (0 + n)
-    ∙ ap (λ (k : ℕ). sum_by f (below n) + f k) (omega arith)
+    ap (λ (k : ℕ). sum_by f (below k)) more ∙ sum-below-suc f n
 
 -- a part of the sum is within the whole
 pub sum_by-below-le : (f : ℕ → ℕ) (k d : ℕ) → sum_by f (below k) ≤ sum_by f (below (k + d))

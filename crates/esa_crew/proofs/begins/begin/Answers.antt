@@ -7,22 +7,22 @@ use Rattle.esa_floor.proofs.Storing.{slots_begun}
 use Rattle.esa_crew.proofs.Beginning.{holds_more, members_more, none_made, posts_more}
 use Rattle.esa_crew.proofs.begins.begin.Goals as goal
 
-pub loop-place-preserved : goal.loop-place-preserved
-loop-place-preserved g c =
+pub loop-worker-preserved : goal.loop-worker-preserved
+loop-worker-preserved g c =
     let f = c.args.floor.now in
-    let inv = c.loop-place.invariant in
-    let workers = c.loop-place.workers in
-    let n = c.loop-place.place in
-    let new = c.begin-in-loop-place.new.self in
+    let inv = c.loop-worker.invariant in
+    let workers = c.loop-worker.workers in
+    let n = c.loop-worker.worker-index in
+    let new = c.begin-in-loop-worker.new.self in
     let each = inv.each in
-    let test = c.loop-place-test.true in
+    let test = c.loop-worker-test.true in
     let inside : n < length workers = omega (arith, each, test) in
     record {
-      posts = posts_more g.G.Told.draws g.C.Coins.target_list f c.begin.new.self c.args.attempt c.begin.ensures.begun workers n c.index-workers-place.result new inside inv.members
-          c.begin-in-loop-place.ensures inv.posts;
-      hold = holds_more g.G.Told.draws c.begin.new.self c.args.attempt workers n c.index-workers-place.result new inside c.begin-in-loop-place.ensures inv.hold;
-      members = members_more g.G.Told.draws g.C.Coins.target_list f c.begin.new.self c.args.attempt c.begin.ensures.begun workers n c.index-workers-place.result new inside inv.members
-          c.begin-in-loop-place.ensures;
+      posts = posts_more g.G.Told.draws g.C.Coins.target_list f c.begin.new.self c.args.attempt c.begin.ensures.begun workers n _ new inside inv.members
+          c.begin-in-loop-worker.ensures inv.posts;
+      hold = holds_more g.G.Told.draws c.begin.new.self c.args.attempt workers n _ new inside c.begin-in-loop-worker.ensures inv.hold;
+      members = members_more g.G.Told.draws g.C.Coins.target_list f c.begin.new.self c.args.attempt c.begin.ensures.begun workers n _ new inside inv.members
+          c.begin-in-loop-worker.ensures;
       each = length-set workers n new ∙ each;
     }
 
@@ -31,9 +31,9 @@ returns-clause-fresh g c = none_made g.G.Told.draws g.C.Coins.target_list c.args
 
 pub returns-clause-hold : goal.returns-clause-hold
 returns-clause-hold g c = λ k w within.
-    let each = c.loop-place.invariant.each in
-    let past = c.loop-place-test.false in
-    c.loop-place.invariant.hold k w (omega (arith, within, each, past))
+    let each = c.loop-worker.invariant.each in
+    let past = c.loop-worker-test.false in
+    c.loop-worker.invariant.hold k w (omega (arith, within, each, past))
 
 pub returns-clause-queues : goal.returns-clause-queues
 returns-clause-queues g c =
