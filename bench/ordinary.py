@@ -7,8 +7,10 @@ yardstick opens. Both programs get the same files, and what they write must agre
 
 Fifteen runs of each program in turn, and the least time of each counts, of the processor's own (user and system), so
 that other work on the machine counts as little as may be. Beside it stand the instructions, as callgrind counts them
-once, and the peaks of memory. Time swings with the machine and instructions don't, so each limit is asked of both. The
-script says of each whether it holds, and ends with status 1 where one doesn't.
+once, and the peaks of memory. Time swings with the machine and instructions don't, so each limit is asked of both. What
+a record takes at the large size is compared with the small one by instructions, and by time beside ordinary Rust, whose
+time for a record grows with its files as well. The script says of each limit whether it holds, and ends with status 1
+where one doesn't.
 """
 
 import argparse
@@ -26,8 +28,8 @@ HERE = os.path.dirname(os.path.abspath(__file__))
 SIZES = [100_000, 262_144]
 RUNS = 15
 
-# What is wanted: of the time and the instructions of ordinary Rust, and of the time for a record at the small size that
-# at the large one.
+# What is wanted: of the time and the instructions of ordinary Rust; and of the instructions for a record at the small size
+# those at the large one, and of the share of ordinary Rust's time at the small size that at the large one.
 LIMITS = {"gen": 0.999, "encode": 1.0, "batch": 1.0, "analyse": 1.0}
 GROWTH = 1.15
 
@@ -40,20 +42,21 @@ def main():
     words.add_argument("--esa", help="a built program, in place of one that is built here")
     asked = words.parse_args()
     esa = os.path.abspath(asked.esa) if asked.esa else program("esa")
-    targets, times = [], {}
+    targets, shares, each = [], {}, {}
     with tempfile.TemporaryDirectory() as folder:
         ordinary = os.path.join(folder, "ordinary")
         subprocess.run(["rustc", "--edition", "2021", "-C", "opt-level=3", "-C", "target-cpu=x86-64-v2", "-o", ordinary, os.path.join(HERE, "ordinary.rs")], check=True)
         print(f"{'command':>8} {'records':>8} {'seconds':>8} {'of ordinary':>11} {'instructions':>12} {'of ordinary':>11} {'peak, of ordinary':>17}", flush=True)
         for size in SIZES:
             for command, pair in commands(esa, ordinary, folder, size):
-                ratio, counted, seconds = compared(command, size, pair, folder, asked.runs)
+                ratio, counted, executed = compared(command, size, pair, folder, asked.runs)
                 targets.append((f"{command} of {size}, time of ordinary Rust", ratio, LIMITS[command]))
                 targets.append((f"{command} of {size}, instructions of ordinary Rust", counted, LIMITS[command]))
-                times[command, size] = seconds / size
+                shares[command, size], each[command, size] = ratio, executed / size
     small, large = SIZES
     for command in LIMITS:
-        targets.append((f"{command}, time of a record at {large} of that at {small}", times[command, large] / times[command, small], GROWTH))
+        targets.append((f"{command}, instructions for a record at {large} of those at {small}", each[command, large] / each[command, small], GROWTH))
+        targets.append((f"{command}, share of ordinary Rust's time at {large} of that at {small}", shares[command, large] / shares[command, small], GROWTH))
     settle(targets)
 
 
@@ -88,7 +91,7 @@ def commands(esa, ordinary, folder, size):
 
 
 def compared(command, size, pair, folder, runs):
-    """Prints one row of the table, and answers the ratios of times and of instructions, and the seconds of esa."""
+    """Prints one row of the table, and answers the ratios of times and of instructions, and the instructions of esa."""
     times = [[], []]
     for _ in range(runs):
         for place, (line, _) in enumerate(pair):
@@ -100,7 +103,7 @@ def compared(command, size, pair, folder, runs):
     peaks = [peak_memory(line, folder) for line, _ in pair]
     print(f"{command:>8} {size:>8} {mine:>8.4f} {mine / theirs:>11.2f} {counts[0]:>12} {counts[0] / counts[1]:>11.2f}"
           f" {peaks[0] / 2**20:>8.1f} {peaks[0] / peaks[1]:>8.2f}", flush=True)
-    return mine / theirs, counts[0] / counts[1], mine
+    return mine / theirs, counts[0] / counts[1], counts[0]
 
 
 def seconds_of(line, folder):
