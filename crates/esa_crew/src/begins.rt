@@ -1,9 +1,11 @@
 //! How a crew begins an attempt.
 
-ghost use Rattle.std.specs.Prelude.{◌≡◌, ◌<◌, [], length};
+ghost use Rattle.std.specs.Prelude.{◌≡◌, ℕ, ◌<◌, [], length};
 ghost use Rattle.esa_floor.specs.Keeping.{QueuesHold, SlotsHold};
 ghost use Rattle.esa_floor.specs.Parts.{begun_as};
 ghost use Rattle.esa_floor.specs.Standing.{Stands, turns_made};
+ghost use Rattle.esa_floor.specs.Written.{EachTookItsBlock};
+ghost use Rattle.esa_report.specs.declared.item.Item.{Item};
 ghost use Rattle.esa_crew.specs.Posts.{AllHold, AreMembers, ArePosts};
 
 use esa_device::Device;
@@ -28,6 +30,7 @@ pub fn begin<V: Device, G: Told, C: Coins>(
     ensures hold { AllHold G.draws floor.new workers.new }
     ensures queues { QueuesHold G.draws floor.new }
     ensures slots { SlotsHold G.draws floor.new }
+    ensures took { (record_of : ℕ → Item) → EachTookItsBlock G.draws record_of floor.old → EachTookItsBlock G.draws record_of floor.new }
 {
     floor.begin(attempt);
     for worker in workers.iter_mut() {

@@ -9,6 +9,8 @@ ghost use Rattle.esa_floor.specs.Keeping.{QueuesHold, QueuesHoldAfter, SlotsHold
 ghost use Rattle.esa_floor.specs.Marks.{roots_of};
 ghost use Rattle.esa_floor.specs.Standing.{Stands, attempt_begun, turns_made};
 ghost use Rattle.esa_floor.specs.Working.{Working};
+ghost use Rattle.esa_floor.specs.Written.{EachTookItsBlock};
+ghost use Rattle.esa_report.specs.declared.item.Item.{Item};
 ghost use Rattle.esa_crew.specs.Posts.{AllHold, ArePosts, KeepsRecords, IsPost};
 ghost use Rattle.esa_crew.specs.Replays.{IsReplayed};
 
@@ -39,6 +41,8 @@ fn step<V: Device, G: Told, C: Coins>(floor: &mut Floor<V, G>, worker: &mut Work
     ensures others_hold { (other : Working C) → KeepsRecords G.draws floor.old other → KeepsRecords G.draws floor.new other }
     ensures queues { KeepsRecords G.draws floor.old worker.old → QueuesHold G.draws floor.old → QueuesHold G.draws floor.new }
     ensures slots { KeepsRecords G.draws floor.old worker.old → SlotsHold G.draws floor.old → SlotsHold G.draws floor.new }
+    ensures took { (record_of : ℕ → Item) → KeepsRecords G.draws floor.old worker.old → EachTookItsBlock G.draws record_of floor.old
+        → EachTookItsBlock G.draws record_of floor.new }
     ensures stops { floor.new.stop ≢ None → StopsAfter V.faults G.draws (turns_made floor.old) floor.new }
     ensures queues_before { floor.new.stop ≢ None → QueuesHold G.draws floor.old → QueuesHoldAfter G.draws (turns_made floor.old) floor.new }
     ensures slots_before { floor.new.stop ≢ None → SlotsHold G.draws floor.old → SlotsHoldAfter G.draws (turns_made floor.old) floor.new }
@@ -72,6 +76,8 @@ fn step_of<V: Device, G: Told, C: Coins>(
     ensures hold { AllHold G.draws floor.old workers.old → QueuesHold G.draws floor.old → AllHold G.draws floor.new workers.new }
     ensures queues { AllHold G.draws floor.old workers.old → QueuesHold G.draws floor.old → QueuesHold G.draws floor.new }
     ensures slots { AllHold G.draws floor.old workers.old → SlotsHold G.draws floor.old → SlotsHold G.draws floor.new }
+    ensures took { (record_of : ℕ → Item) → AllHold G.draws floor.old workers.old → EachTookItsBlock G.draws record_of floor.old
+        → EachTookItsBlock G.draws record_of floor.new }
     ensures stops { floor.new.stop ≢ None → StopsAfter V.faults G.draws (turns_made floor.old) floor.new }
     ensures queues_before { floor.new.stop ≢ None → QueuesHold G.draws floor.old → QueuesHoldAfter G.draws (turns_made floor.old) floor.new }
     ensures slots_before { floor.new.stop ≢ None → SlotsHold G.draws floor.old → SlotsHoldAfter G.draws (turns_made floor.old) floor.new }
@@ -139,6 +145,8 @@ pub fn replay<V: Device, G: Told, C: Coins>(
     ensures hold { AllHold G.draws floor.old workers.old → QueuesHold G.draws floor.old → AllHold G.draws floor.new workers.new }
     ensures queues { AllHold G.draws floor.old workers.old → QueuesHold G.draws floor.old → QueuesHold G.draws floor.new }
     ensures slots { AllHold G.draws floor.old workers.old → QueuesHold G.draws floor.old → SlotsHold G.draws floor.old → SlotsHold G.draws floor.new }
+    ensures took { (record_of : ℕ → Item) → AllHold G.draws floor.old workers.old → QueuesHold G.draws floor.old → EachTookItsBlock G.draws record_of floor.old
+        → EachTookItsBlock G.draws record_of floor.new }
     ensures stops { floor.new.stop ≢ None → (before : List ℕ) × StopsAfter V.faults G.draws before floor.new
         × (AllHold G.draws floor.old workers.old → QueuesHold G.draws floor.old → SlotsHold G.draws floor.old
         → QueuesHoldAfter G.draws before floor.new × SlotsHoldAfter G.draws before floor.new) }

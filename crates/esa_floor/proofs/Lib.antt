@@ -6,6 +6,8 @@ mod Exchanging
 mod Fitting
 mod Holding
 mod Keeping
+pub mod Lasting
+mod Latest
 mod Making
 mod Opening
 pub mod Queueing
@@ -16,3 +18,4 @@ mod Spreading
 mod Stopping
 pub mod Storing
 pub mod Turning
+pub mod Writing

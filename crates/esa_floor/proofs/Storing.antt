@@ -79,7 +79,7 @@ length_padded n items few =
     omega (arith, both, more, few)
 
 -- the chunk of a target, among the chunks of its bucket
-chunk_is : (p : Sizes) (d : Draw) (record_of : ℕ → Item) (o : List ℕ) (j i : ℕ) (chunks : List Item) → AreChunks p d record_of o j chunks → i < p.b
+pub chunk_is : (p : Sizes) (d : Draw) (record_of : ℕ → Item) (o : List ℕ) (j i : ℕ) (chunks : List Item) → AreChunks p d record_of o j chunks → i < p.b
     → chunk_at p.c chunks i ≡ padded p.c (map record_of (chunk p d o (exchange_of o j) i))
 chunk_is p d record_of o j i chunks are inside =
     ap (λ (xs : List Item). chunk_at p.c xs i) are.items

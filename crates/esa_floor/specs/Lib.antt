@@ -9,3 +9,4 @@ pub mod Private
 pub mod Standing
 pub mod Workers
 pub mod Working
+pub mod Written

@@ -3,6 +3,7 @@
 ghost use Rattle.std.specs.Prelude.{◌≡◌, ◌≢◌, ℕ, ◌+◌, ◌-◌, ◌*◌, ◌<◌, ◌≤◌, ◌↔◌, ◌++◌, ◌∷◌, [], min, Some, None, IsTrue, IfOk, IfErr, IsOk, OnOk, OnErr, length, option_to_list};
 ghost use Rattle.esa_params.specs.Sizes.{size};
 ghost use Rattle.esa_params.specs.Slots.{access_of, at, greatest_trace};
+ghost use Rattle.esa_report.specs.declared.item.Item.{Item};
 ghost use Rattle.esa_spec.specs.Draws.{drawn};
 ghost use Rattle.esa_spec.specs.Traces.{asked, chunk_slot};
 ghost use Rattle.esa_spec.specs.Turns.{held, next, next_phase};
@@ -13,6 +14,7 @@ ghost use Rattle.esa_floor.specs.Logging.{noted_of, read_of, write_of};
 ghost use Rattle.esa_floor.specs.Marks.{mark_of, roots_of};
 ghost use Rattle.esa_floor.specs.Workers.{IsInRound, IsOfFloor, WorkerStands, moved};
 ghost use Rattle.esa_floor.specs.Working.{IsReady, Working, handed_by, passed};
+ghost use Rattle.esa_floor.specs.Written.{EachTookItsBlock};
 ghost use Rattle.esa_floor.specs.Parts.{begun_as, count_at, ended_as, no_counts, nothing_counted, with_entry};
 ghost use Rattle.esa_floor.specs.Standing.{IsAtWork, Stands, StopsAt, attempt_begun, turns_made};
 
@@ -612,6 +614,7 @@ impl<V: Device, G: Told> Floor<V, G> {
             → HoldsChunks G.draws self.new worker.new }
         ensures others_chunks { (other : Working C) → HoldsChunks G.draws self.old other → HoldsChunks G.draws self.new other }
         ensures slots { HoldsChunks G.draws self.old worker.old → SlotsHold G.draws self.old → SlotsHold G.draws self.new }
+        ensures took { (record_of : ℕ → Item) → HoldsChunks G.draws self.old worker.old → EachTookItsBlock G.draws record_of self.old → EachTookItsBlock G.draws record_of self.new }
 
         // Where this turn fails, the turns stop at it, and the queues and the slots hold what those before it made.
         ensures stops { self.old.attempt ≢ None → self.old.stop ≡ None → self.new.stop ≢ None → StopsAfter V.faults G.draws (turns_made self.old) self.new }

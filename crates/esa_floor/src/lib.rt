@@ -13,11 +13,15 @@ mod exchanger;
 mod floor;
 mod logged;
 mod private;
+mod slots;
 mod told;
 mod turn;
 mod worker;
 
 pub use floor::{Floor, Given, History, NoFloor, Roots};
+pub use slots::{
+    attempts_have_their_turns, each_write_takes_its_block, latest_writes_took_their_blocks,
+};
 pub use told::Told;
 pub use turn::{Outcome, Stop, Turn};
 pub use worker::{Stage, Worker};

@@ -11,6 +11,8 @@ use Rattle.esa_floor.specs.Ends.{HasMade, IsOver}
 use Rattle.esa_floor.specs.Keeping.{AreChunksStored, HasInput, QueuesHold, SlotsHold}
 use Rattle.esa_floor.specs.Parts.{Parts}
 use Rattle.esa_floor.specs.Standing.{IsAt, IsAtWork, IsOf, IsSpread, StopsAt, lists_before, turns_made}
+use Rattle.esa_floor.specs.Written.{attempt_turns}
+use Rattle.esa_floor.proofs.Lasting.{turns-made}
 use Rattle.esa_spec.specs.Fronts.{items_in}
 use Rattle.esa_floor.specs.declared.turn.Outcome.{Outcome}
 use Rattle.esa_floor.specs.declared.turn.Stop.{Stop}
@@ -136,6 +138,19 @@ module _ {V : Type 0} (faults : V → ℕ) (p : Sizes) (ds : ℕ → Draw) (f : 
   pub chunks_are : (record_of : ℕ → Item) → HasInput f record_of → SlotsHold ds f → AreChunksStored f.plan f.run a d record_of h f.recorder.log
   chunks_are record_of input holds =
       subst (λ (b : ℕ). AreChunksStored f.plan f.run b (ds b) record_of h f.recorder.log) (sym at_work.attempt) (holds record_of input some_attempt ready.runs)
+
+  -- its turns are those that the history has of the attempt, before a drain and after
+  pub turns_are : attempt_turns f a ≡ h
+  turns_are = ap (attempt_turns f) at_work.attempt ∙ turns-made f at_work.some_begun
+
+  still_turns : (new : Parts V) → new ≡ record f { recorder = new.recorder; stash = new.stash } → attempt_turns new a ≡ turns_made new
+  still_turns new same = subst (λ (x : Parts V). attempt_turns x a ≡ turns_made x) (sym same) turns_are
+
+  pub turns_behind : (new : Parts V) (result : Result (Unit {0}) Halt) → DrainEnd faults d (order f.plan.b h) a f new result → attempt_turns new a ≡ turns_made new
+  turns_behind new (Ok done) end = still_turns new end.1.others
+  turns_behind new (Err (halt.Verdict v)) end = still_turns new end.3.others
+  turns_behind new (Err (halt.Fault (Device number))) end = still_turns new end.3.others
+  turns_behind new (Err (halt.Fault (Tampered number))) never = absurd never
 
   -- what the load, the attempts before and the turns have left of the most that a shuffle makes
   left_over : (b x n trace room earlier last : ℕ) → 3 * b + n * x ≤ trace + room → trace ≡ (b + earlier) + last

@@ -6,3 +6,4 @@ pub mod Moving
 pub mod Opened
 pub mod Stepping
 pub mod Storing
+pub mod Taking

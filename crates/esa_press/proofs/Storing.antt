@@ -17,7 +17,7 @@ use Rattle.esa_laws.proofs.LineLaws.{length-queued}
 use Rattle.esa_laws.proofs.PairLaws.{each-pair}
 use Rattle.esa_laws.proofs.PlaceLaws.{fits-each}
 use Rattle.esa_laws.proofs.Tests.{bit}
-use Rattle.esa_laws.proofs.TotalLaws.{all-exchanged}
+use Rattle.esa_laws.proofs.TotalLaws.{all-exchanged, once}
 use Rattle.esa_params.specs.Sizes.{ArePlanned, Sizes, below, first, size}
 use Rattle.esa_params.specs.Slots.{IsPlanned, access_of, at, is_writing, item_length, number_of, slot_number}
 use Rattle.esa_params.specs.declared.slot.Op.{Op}
@@ -43,7 +43,8 @@ use Rattle.esa_vault.proofs.BlockLaws.{opens-sealed}
 use Rattle.esa_vault.proofs.TextLaws.{place-inside, text-fills}
 use Rattle.esa_floor.specs.Keeping.{AreChunksStored, HasInput, chunk_block}
 use Rattle.esa_floor.specs.Parts.{Parts, count_at}
-use Rattle.esa_press.specs.Contents.{AreItems, AreOrders, ArePut, AreQueued, AreTailsStored, EachOpens, GoesOnPressing, GoesOnWriting, HoldsDistribution, IsOfPress, has_stored, output_of, tail_of, waiting_items}
+use Rattle.esa_floor.proofs.Writing.{took-read}
+use Rattle.esa_press.specs.Contents.{AreItems, AreOrders, ArePut, AreQueued, AreTailsStored, EachOpens, GoesOnPressing, GoesOnWriting, HoldsDistribution, IsOfPress, WroteItsBlock, has_stored, output_of, tail_of, waiting_items}
 use Rattle.esa_press.specs.Drained.{AreDrained, DrainEnd, failed_tail, stored_tail, tail_block}
 use Rattle.esa_press.specs.Fetched.{AreStored, GoesOnReading, IsFetched, IsStored, part_slot}
 use Rattle.esa_press.specs.Pressed.{ImportAnswer, Pressed, PutAnswer, output_block}
@@ -231,7 +232,7 @@ writing_put p a j n m bytes first old new so_far is count =
     }
 
 -- slots before the output are spared
-spared_before : (p : Sizes) (number : ℕ) → number < number_of p (at Output 0) → (entry : Carried) → IsOfPress entry → Spares p number entry
+pub spared_before : (p : Sizes) (number : ℕ) → number < number_of p (at Output 0) → (entry : Carried) → IsOfPress entry → Spares p number entry
 spared_before p number before entry of = by entry.access.op refl
   where
     by : (op : Op) → entry.access.op ≡ op → Spares p number entry
@@ -259,17 +260,49 @@ module _ (p : Sizes) (keys : Keys) (d : Draw) (h : List ℕ) (a : ℕ) (record_o
     tails = λ i i_in. took_on p n (number_of p (at Tail i)) (tail_of p keys d h a record_of i) old new (omega (arith, i_in)) on (holds.tails i i_in);
   }
 
+  -- a read takes nothing, and an output bucket is written with its block
+  abbrev Wrote : Carried → Type 0
+  Wrote = WroteItsBlock p keys d h a record_of
+
+  read_wrote : (entry : Carried) → entry.access.op ≡ Reads → Wrote entry
+  read_wrote entry reads = record {
+    attempt = λ writes. absurd (let both = sym reads ∙ writes in cc both);
+    block = took-read p keys (λ b. d) record_of (λ b. h) entry reads;
+  }
+
+  output_wrote : (n : ℕ) (stored : Option (List ℕ)) → n < p.b → writes p.b h ≡ p.b * p.b → ((bytes : List ℕ) → stored ≡ Some bytes → bytes ≡ output_of p keys d h a record_of n)
+      → Wrote (record { access = access_of p a Writes (at Output n); bytes = stored })
+  output_wrote n stored n_in all is = record {
+    attempt = λ writing. refl;
+    block = record {
+      planned = λ writing. n_in;
+      took = λ bytes writing other moved. record {
+        exchanged = λ j j_in. let one = once p.b h j all j_in in omega (arith, one);
+        sealed = is bytes moved;
+      };
+    };
+  }
+
+  stored_is : (block bytes : List ℕ) → Some block ≡ Some bytes → bytes ≡ block
+  stored_is block bytes moved = cc moved
+
+  none_moved : (block bytes : List ℕ) → None ≡ Some bytes → bytes ≡ block
+  none_moved block bytes moved = absurd (cc moved)
+
   -- the output buckets so far
   pub put_none : (log : List Carried) → ArePut p keys d h a record_of 0 log log
-  put_none log = record { log = writing_none log; outputs = λ j inside. absurd (omega arith) }
+  unfolding writing_none
+  put_none log = record { log = writing_none log; outputs = λ j inside. absurd (omega arith); each = All-nil Wrote }
 
   pub put_read : (n : ℕ) (first old new : List Carried) → ArePut p keys d h a record_of n first old → GoesOnReading old new → ArePut p keys d h a record_of n first new
+  unfolding writing_read
   put_read n first old new so_far on = record {
     log = writing_read n first old new so_far.log on;
     outputs = λ j inside.
         subst (λ (l : List Carried). Took p (number_of p (at Output j)) (output_of p keys d h a record_of j) l) (sym on.longer)
         (took_over p (number_of p (at Output j)) (output_of p keys d h a record_of j) old on.more
         (All-weaker (λ (entry : Carried). entry.access.op ≡ Reads) (Spares p (number_of p (at Output j))) (λ entry reads. inl reads) on.more on.reads) (so_far.outputs j inside));
+    each = All-append Wrote so_far.log.more on.more so_far.each (All-weaker (λ (entry : Carried). entry.access.op ≡ Reads) Wrote read_wrote on.more on.reads);
   }
 
   still_put : (n j : ℕ) (bytes : Option (List ℕ)) (old new : List Carried) → new ≡ old ++ record { access = access_of p a Writes (at Output n); bytes = bytes } ∷ [] → j < n
@@ -279,9 +312,10 @@ module _ (p : Sizes) (keys : Keys) (d : Draw) (h : List ℕ) (a : ℕ) (record_o
       (took-elsewhere p (number_of p (at Output j)) (output_of p keys d h a record_of j) old (record { access = access_of p a Writes (at Output n); bytes = bytes })
       (λ same. absurd (omega (arith, same, sooner))) took)
 
-  pub put_stored : (n : ℕ) (first old new : List Carried) → ArePut p keys d h a record_of n first old
+  pub put_stored : (n : ℕ) (first old new : List Carried) → n < p.b → writes p.b h ≡ p.b * p.b → ArePut p keys d h a record_of n first old
       → new ≡ old ++ record { access = access_of p a Writes (at Output n); bytes = Some (output_of p keys d h a record_of n) } ∷ [] → ArePut p keys d h a record_of (n + 1) first new
-  put_stored n first old new so_far is =
+  unfolding writing_put
+  put_stored n first old new n_in all so_far is =
       let block = output_of p keys d h a record_of n in
       record {
         log = writing_put p a n n (n + 1) (Some block) first old new so_far.log is refl;
@@ -293,33 +327,38 @@ module _ (p : Sizes) (keys : Keys) (d : Draw) (h : List ℕ) (a : ℕ) (record_o
               (subst (λ (l : List Carried). Took p (number_of p (at Output n)) block l) (sym is)
               (took-written p block old (record { access = access_of p a Writes (at Output n); bytes = Some block }) refl refl))
         ];
+        each = All-push Wrote so_far.log.more (record { access = access_of p a Writes (at Output n); bytes = Some block }) so_far.each
+            (output_wrote n (Some block) n_in all (stored_is block));
       }
 
-  pub put_failed : (n : ℕ) (first old new : List Carried) → ArePut p keys d h a record_of n first old
+  pub put_failed : (n : ℕ) (first old new : List Carried) → n < p.b → writes p.b h ≡ p.b * p.b → ArePut p keys d h a record_of n first old
       → new ≡ old ++ record { access = access_of p a Writes (at Output n); bytes = None } ∷ [] → ArePut p keys d h a record_of n first new
-  put_failed n first old new so_far is =
+  unfolding writing_put
+  put_failed n first old new n_in all so_far is =
       let none : n ≡ n + 0 = omega arith in
       record {
         log = writing_put p a n n n None first old new so_far.log is none;
         outputs = λ j inside. still_put n j None old new is inside (so_far.outputs j inside);
+        each = All-push Wrote so_far.log.more (record { access = access_of p a Writes (at Output n); bytes = None }) so_far.each
+            (output_wrote n None n_in all (none_moved (output_of p keys d h a record_of n)));
       }
 
   -- one output bucket more
   pub output_put : {V : Type 0} (told : V → Option (List (List ℕ))) (faults : V → ℕ) (last_call : V → Option (Op × ℕ)) (n i : ℕ) (first : List Carried) (old new : Recorded V) (queue rest : List Item) (result : Result (Unit {0}) Halt)
-      → (size p n ≤ length queue → take (size p n) queue ≡ map record_of (output_places p d h n)) → drop (size p n) queue ≡ map record_of (window p d (order p.b h) (n + 1) i)
+      → n < p.b → writes p.b h ≡ p.b * p.b → (size p n ≤ length queue → take (size p n) queue ≡ map record_of (output_places p d h n)) → drop (size p n) queue ≡ map record_of (window p d (order p.b h) (n + 1) i)
       → ArePut p keys d h a record_of n first old.log → PutAnswer told faults last_call p keys a n queue rest old new result
       → EachOpens result (ArePut p keys d h a record_of (n + 1) first new.log × (rest ≡ map record_of (window p d (order p.b h) (n + 1) i))) (ArePut p keys d h a record_of n first new.log)
-  output_put told faults last_call n i first old new queue rest (Ok done) front behind so_far answer = (
-    put_stored n first old.log new.log so_far
+  output_put told faults last_call n i first old new queue rest (Ok done) n_in all front behind so_far answer = (
+    put_stored n first old.log new.log n_in all so_far
         (answer.2.recorded.log
         ∙ ap (λ (items : List Item). old.log ++ record { access = access_of p a Writes (at Output n); bytes = Some (sealed_block p keys (at Output n) a (text_of (item_length p.form) items)) } ∷ []) (front answer.0)),
     answer.1 ∙ behind,
   )
-  output_put told faults last_call n i first old new queue rest (Err (halt.Verdict v)) front behind so_far answer =
+  output_put told faults last_call n i first old new queue rest (Err (halt.Verdict v)) n_in all front behind so_far answer =
       subst (λ (r : Recorded _). ArePut p keys d h a record_of n first r.log) (sym answer.3) so_far
-  output_put told faults last_call n i first old new queue rest (Err (halt.Fault (Device number))) front behind so_far answer =
-      put_failed n first old.log new.log so_far answer.2.recorded.log
-  output_put told faults last_call n i first old new queue rest (Err (halt.Fault (Tampered number))) front behind so_far answer = absurd answer.2.answer
+  output_put told faults last_call n i first old new queue rest (Err (halt.Fault (Device number))) n_in all front behind so_far answer =
+      put_failed n first old.log new.log n_in all so_far answer.2.recorded.log
+  output_put told faults last_call n i first old new queue rest (Err (halt.Fault (Tampered number))) n_in all front behind so_far answer = absurd answer.2.answer
 
 -- the tails of a drain
 module _ {V : Type 0} (faults : V → ℕ) (a : ℕ) (f : Parts V) (d : Draw) (h : List ℕ) (record_of : ℕ → Item) where
@@ -363,7 +402,7 @@ module _ {V : Type 0} (faults : V → ℕ) (a : ℕ) (f : Parts V) (d : Draw) (h
       }
 
   -- the input of the floor stays too
-  the_same_but : {T : Type 0} (o : List ℕ) (new : Parts V) (result : Result T Halt) → DrainEnd faults d o a f new result → new ≡ record f { recorder = new.recorder; stash = new.stash }
+  pub the_same_but : {T : Type 0} (o : List ℕ) (new : Parts V) (result : Result T Halt) → DrainEnd faults d o a f new result → new ≡ record f { recorder = new.recorder; stash = new.stash }
   the_same_but o new (Ok done) end = end.1.others
   the_same_but o new (Err (halt.Verdict v)) end = end.3.others
   the_same_but o new (Err (halt.Fault (Device slot))) end = end.3.others

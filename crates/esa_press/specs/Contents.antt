@@ -3,21 +3,19 @@ use Rattle.std.specs.Prelude.{◌≡◌, ℕ, ◌<◌, ◌++◌, ◌&&◌, Bool,
 use Rattle.esa_device.specs.Logs.{Carried, Took}
 use Rattle.esa_envelope.specs.declared.keys.Keys.{Keys}
 use Rattle.esa_floor.specs.Keeping.{AreChunksStored}
+use Rattle.esa_floor.specs.Written.{TookItsBlock, output_seal, tail_seal}
 use Rattle.esa_params.specs.Sizes.{Sizes}
 use Rattle.esa_params.specs.Slots.{at, is_writing, item_length, number_of}
 use Rattle.esa_params.specs.declared.slot.Op.TheVariants.{Write as Writes}
 use Rattle.esa_params.specs.declared.slot.Region.TheVariants.{Output, Tail}
 use Rattle.esa_report.specs.declared.item.Item.{Item}
 use Rattle.esa_spec.specs.Draws.{Draw}
-use Rattle.esa_spec.specs.Lines.{queued, tail}
-use Rattle.esa_spec.specs.Places.{output_places, window}
+use Rattle.esa_spec.specs.Lines.{queued}
+use Rattle.esa_spec.specs.Places.{window}
 use Rattle.esa_spec.specs.Turns.{order}
 use Rattle.esa_stash.specs.Stash.{Held, queue_at}
-use Rattle.esa_vault.specs.Filled.{text_of}
 use Rattle.esa_vault.specs.Placed.{IsHeld, IsSpelled}
-use Rattle.esa_vault.specs.Seals.{sealed_block}
 use Rattle.esa_vault.specs.declared.fault.VaultFault.TheVariants.{Device, Tampered}
-use Rattle.esa_press.specs.Records.{sealed_records}
 use Rattle.esa_press.specs.declared.halt.Halt.{Halt}
 use Rattle.esa_press.specs.declared.halt.Halt.TheVariants.{Verdict, Fault}
 
@@ -42,11 +40,11 @@ AreQueued p d h record_of stash =
 module _ (p : Sizes) (keys : Keys) (d : Draw) (h : List ℕ) (a : ℕ) (record_of : ℕ → Item) where
   -- the tail of the target i in attempt a with the turns h: the block of the records of its places, with dummies behind them
   abbrev pub tail_of : ℕ → List ℕ
-  tail_of i = sealed_records p keys (at Tail i) a p.k (map record_of (tail p d (order p.b h) i))
+  tail_of i = tail_seal p keys a d record_of (order p.b h) i
 
   -- output bucket j: the block of the records of its places, in order
   abbrev pub output_of : ℕ → List ℕ
-  output_of j = sealed_block p keys (at Output j) a (text_of (item_length p.form) (map record_of (output_places p d h j)))
+  output_of j = output_seal p keys a d record_of h j
 
   -- the latest write of the slot of each tail took its block
   abbrev pub AreTailsStored : List Carried → Type 0
@@ -55,6 +53,11 @@ module _ (p : Sizes) (keys : Keys) (d : Draw) (h : List ℕ) (a : ℕ) (record_o
   -- and so it is with those of the first n output buckets
   abbrev pub AreOutputsStored : ℕ → List Carried → Type 0
   AreOutputsStored n log = (j : ℕ) → j < n → Took p (number_of p (at Output j)) (output_of j) log
+
+-- a write is of attempt a, and took the block of its access by the turns h, unless it failed
+pub record WroteItsBlock (p : Sizes) (keys : Keys) (d : Draw) (h : List ℕ) (a : ℕ) (record_of : ℕ → Item) (entry : Carried) : Type 0 where
+  pub attempt : entry.access.op ≡ Writes → entry.access.attempt ≡ a
+  pub block : TookItsBlock p keys (λ b. d) record_of (λ b. h) entry
 
 -- what was distributed in an attempt is stored: the chunks and the tails, of the records of their places
 pub record HoldsDistribution (p : Sizes) (keys : Keys) (d : Draw) (h : List ℕ) (a : ℕ) (record_of : ℕ → Item) (log : List Carried) : Type 0 where
@@ -81,10 +84,11 @@ pub record GoesOnWriting (n : ℕ) (old new : List Carried) : Type 0 where
 abbrev pub GoesOnPressing : List Carried → List Carried → Type 0
 GoesOnPressing old new = (n : ℕ) × GoesOnWriting n old new
 
--- the first n output buckets were written, and no more
+-- the first n output buckets were written, and no more. Each write took the block of its access, unless it failed
 pub record ArePut (p : Sizes) (keys : Keys) (d : Draw) (h : List ℕ) (a : ℕ) (record_of : ℕ → Item) (n : ℕ) (old new : List Carried) : Type 0 where
   pub log : GoesOnWriting n old new
   pub outputs : AreOutputsStored p keys d h a record_of n new
+  pub each : All (WroteItsBlock p keys d h a record_of) log.more
 
 -- each block that was given opened: the one fact, where all was done, and the other one, where it was stopped
 abbrev pub EachOpens : {T : Type 0} → Result T Halt → Type 0 → Type 0 → Type 0

@@ -6,6 +6,7 @@ ghost use Rattle.esa_compress.specs.Held.{held_in};
 ghost use Rattle.esa_device.specs.Logs.{Carried, IsFaithful};
 ghost use Rattle.esa_floor.specs.Keeping.{HasInput};
 ghost use Rattle.esa_floor.specs.Standing.{turns_made};
+ghost use Rattle.esa_floor.specs.Written.{EachTookItsBlock, attempt_turns};
 ghost use Rattle.esa_params.specs.Sizes.{ArePlanned, first};
 ghost use Rattle.esa_spec.specs.Turns.{order};
 ghost use Rattle.esa_spec.specs.Verdicts.{Import, imported, reached, steps, steps_of};
@@ -189,6 +190,10 @@ impl Press {
             (ArePut floor.old.plan floor.old.run (G.draws attempt) (turns_made floor.old) attempt record_of floor.old.plan.b floor.old.recorder.log floor.new.recorder.log)
             ((n : ℕ) × (n < floor.old.plan.b)
             × ArePut floor.old.plan floor.old.run (G.draws attempt) (turns_made floor.old) attempt record_of n floor.old.recorder.log floor.new.recorder.log) }
+        ensures took { (record_of : ℕ → Item) → attempt_turns floor.old attempt ≡ turns_made floor.old
+            → AreOrders floor.old.plan (G.draws attempt) (C.order_list coins.now attempt)
+            → HoldsDistribution floor.old.plan floor.old.run (G.draws attempt) (turns_made floor.old) attempt record_of floor.old.recorder.log
+            → EachTookItsBlock G.draws record_of floor.old → EachTookItsBlock G.draws record_of floor.new }
     {
         let plan = self.plan();
         self.clear();

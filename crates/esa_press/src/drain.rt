@@ -4,6 +4,7 @@ ghost use Rattle.std.specs.Prelude.{◌≡◌, ℕ, ◌*◌, ◌<◌, ◌≤◌,
 ghost use Rattle.esa_device.specs.Logs.{IsFaithful};
 ghost use Rattle.esa_floor.specs.Keeping.{AreChunksStored, HasInput};
 ghost use Rattle.esa_floor.specs.Standing.{IsSpread, turns_made};
+ghost use Rattle.esa_floor.specs.Written.{EachTookItsBlock, attempt_turns};
 ghost use Rattle.esa_spec.specs.Draws.{IsDrawn};
 ghost use Rattle.esa_spec.specs.Turns.{order};
 ghost use Rattle.esa_stash.specs.Stash.{queue_at};
@@ -45,6 +46,9 @@ impl Press {
         ensures chunks { (record_of : ℕ → Item) → AreChunksStored floor.old.plan floor.old.run attempt (G.draws attempt) record_of (turns_made floor.old) floor.old.recorder.log
             → AreChunksStored floor.old.plan floor.old.run attempt (G.draws attempt) record_of (turns_made floor.old) floor.new.recorder.log }
         ensures input { (record_of : ℕ → Item) → IsFaithful floor.old.plan floor.new.recorder.log → HasInput floor.old record_of → HasInput floor.new record_of }
+        ensures took { (record_of : ℕ → Item) → attempt_turns floor.old attempt ≡ turns_made floor.old
+            → AreQueued floor.old.plan (G.draws attempt) (turns_made floor.old) record_of floor.old.stash
+            → EachTookItsBlock G.draws record_of floor.old → EachTookItsBlock G.draws record_of floor.new }
     {
         for target in 0..self.plan().b() {
             if let Err(halt) = self.drain_one(floor, attempt, target) {

@@ -7,6 +7,7 @@ ghost use Rattle.esa_floor.specs.Ends.{IsOver};
 ghost use Rattle.esa_floor.specs.Keeping.{AreChunksStored, HasInput, QueuesHold, SlotsHold};
 ghost use Rattle.esa_floor.specs.Parts.{Parts};
 ghost use Rattle.esa_floor.specs.Standing.{IsSpread, turns_made};
+ghost use Rattle.esa_floor.specs.Written.{attempt_turns};
 ghost use Rattle.esa_params.specs.Sizes.{Sizes};
 ghost use Rattle.esa_report.specs.declared.item.Item.{Item};
 ghost use Rattle.esa_spec.specs.Draws.{Draw, IsDrawn};
@@ -40,6 +41,13 @@ pub fn distributed_floors_hold<V: Device>()
         → AreQueued f.plan (ds a) (turns_made f) record_of f.stash }
     ensures chunks { (p : Sizes) (ds : ℕ → Draw) (f : Parts V) (a : ℕ) (record_of : ℕ → Item) → IsDistributed V.faults p ds f a → HasInput f record_of → SlotsHold ds f
         → AreChunksStored f.plan f.run a (ds a) record_of (turns_made f) f.recorder.log }
+{}
+
+/// The turns of the attempt are those that the history has of it, before its drain and after.
+pub fn distributed_floors_have_their_turns<V: Device>()
+    ensures before { (p : Sizes) (ds : ℕ → Draw) (f : Parts V) (a : ℕ) → IsDistributed V.faults p ds f a → attempt_turns f a ≡ turns_made f }
+    ensures after { (p : Sizes) (ds : ℕ → Draw) (f new : Parts V) (a : ℕ) (result : Result (Unit {0}) Halt) → IsDistributed V.faults p ds f a
+        → DrainEnd V.faults (ds a) (order f.plan.b (turns_made f)) a f new result → attempt_turns new a ≡ turns_made new }
 {}
 
 /// An attempt of which too much is left in the stash is over and has failed. Where the write of a tail failed, that cuts it.

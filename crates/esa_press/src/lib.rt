@@ -17,8 +17,8 @@ mod room;
 mod store;
 
 pub use ends::{
-    compressions_end_attempts, distributed_floors_are_ready, distributed_floors_hold,
-    drains_end_attempts,
+    compressions_end_attempts, distributed_floors_are_ready, distributed_floors_have_their_turns,
+    distributed_floors_hold, drains_end_attempts,
 };
 pub use halt::Halt;
 pub use press::Press;

@@ -2,8 +2,10 @@
 use Rattle.std.proofs.Common.{◌<◌, length, length-set, sym, ◌∙◌, subst, arith}
 use Rattle.esa_floor.specs.Keeping.{QueuesHold, SlotsHold}
 use Rattle.esa_floor.specs.Parts.{Parts}
+use Rattle.esa_floor.specs.Written.{EachTookItsBlock}
 use Rattle.esa_floor.proofs.Queueing.{queues_begun}
 use Rattle.esa_floor.proofs.Storing.{slots_begun}
+use Rattle.esa_floor.proofs.Writing.{took-begun}
 use Rattle.esa_crew.proofs.Beginning.{holds_more, members_more, none_made, posts_more}
 use Rattle.esa_crew.proofs.begins.begin.Goals as goal
 
@@ -42,3 +44,8 @@ returns-clause-queues g c =
 pub returns-clause-slots : goal.returns-clause-slots
 returns-clause-slots g c =
     subst (λ (x : Parts _). SlotsHold g.G.Told.draws x) (sym c.begin.ensures.begun) (slots_begun g.G.Told.draws c.args.floor.now c.args.attempt)
+
+pub returns-clause-took : goal.returns-clause-took
+returns-clause-took g c = λ record_of took.
+    subst (λ (x : Parts _). EachTookItsBlock g.G.Told.draws record_of x) (sym c.begin.ensures.begun)
+    (took-begun g.G.Told.draws record_of c.args.floor.now c.args.attempt took)

@@ -106,6 +106,7 @@ loop-made-preserved g c =
       hold = λ all queues. done.hold (inv.hold all queues) (inv.queues all queues);
       queues = λ all queues. done.queues (inv.hold all queues) (inv.queues all queues);
       slots = λ all queues slots. done.slots (inv.hold all queues) (inv.slots all queues slots);
+      took = λ record_of all queues took. done.took record_of (inv.hold all queues) (inv.took record_of all queues took);
       stops = λ ran halted. (
         turns_made now,
         done.stops halted,
@@ -155,6 +156,12 @@ returns-then-is_over-clause-slots g c = c.loop-made.invariant.slots
 
 pub returns-clause-slots : goal.returns-clause-slots
 returns-clause-slots g c = c.loop-made.invariant.slots
+
+pub returns-then-is_over-clause-took : goal.returns-then-is_over-clause-took
+returns-then-is_over-clause-took g c = c.loop-made.invariant.took
+
+pub returns-clause-took : goal.returns-clause-took
+returns-clause-took g c = c.loop-made.invariant.took
 
 pub returns-then-is_over-clause-stops : goal.returns-then-is_over-clause-stops
 returns-then-is_over-clause-stops g c =

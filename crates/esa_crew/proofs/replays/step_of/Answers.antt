@@ -37,3 +37,7 @@ returns-clause-queues g c = λ all queues.
 pub returns-clause-slots : goal.returns-clause-slots
 returns-clause-slots g c = λ all slots.
     c.step.ensures.slots (all c.args.number c.index-workers-number.result c.requires.number) slots
+
+pub returns-clause-took : goal.returns-clause-took
+returns-clause-took g c = λ record_of all took.
+    c.step.ensures.took record_of (all c.args.number c.index-workers-number.result c.requires.number) took

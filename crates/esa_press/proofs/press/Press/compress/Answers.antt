@@ -15,6 +15,8 @@ use Rattle.esa_press.proofs.Storing.{Puts, input_pressed, pressing_faithful, pre
 use Rattle.esa_press.proofs.Fetching.{reads_none}
 use Rattle.esa_press.specs.Contents.{ArePut}
 use Rattle.std.proofs.Math.Seq.{drop-nil}
+use Rattle.esa_floor.specs.Written.{EachTookItsBlock}
+use Rattle.esa_press.proofs.Taking.{took_put, took_put_until}
 use Rattle.esa_press.proofs.press.Press.compress.Goals as goal
 
 pub loop-output-init : goal.loop-output-init
@@ -85,6 +87,24 @@ returns-clause-outputs g c = λ record_of orders holds faithful.
     let last : c.loop-output.output ≡ f.plan.b = omega (arith, c.loop-output-test.false, c.loop-output.auto.output-end, c.b-output-end.ensures.value, ap (λ (q : Sizes). q.b) plan_is) in
     subst (λ (n : ℕ). ArePut f.plan f.run (g.G.Told.draws c.args.attempt) (turns_made f) c.args.attempt record_of n f.recorder.log c.loop-output.floor.recorder.log) last
     (c.loop-output.invariant.puts record_of orders holds faithful).0
+
+pub returns-in-Err-clause-took : goal.returns-in-Err-clause-took
+returns-in-Err-clause-took g c = λ record_of made orders holds took.
+    let f = c.args.floor.now in
+    let a = c.args.attempt in
+    let new = c.put_out.new.floor.recorder in
+    subst (λ (x : Parts _). EachTookItsBlock g.G.Told.draws record_of x) (sym (c.put_out.ensures.floor ∙ ap (λ (x : Parts _). record x { recorder = new }) c.loop-output.invariant.floor))
+    (λ input. took_put_until f g.G.Told.draws a (turns_made f) record_of made new f.plan.b c.in-Err.halt
+    (returns-in-Err-clause-outputs g c record_of orders holds input.faithful) took input)
+
+pub returns-clause-took : goal.returns-clause-took
+returns-clause-took g c = λ record_of made orders holds took.
+    let f = c.args.floor.now in
+    let a = c.args.attempt in
+    let new = c.loop-output.floor.recorder in
+    subst (λ (x : Parts _). EachTookItsBlock g.G.Told.draws record_of x) (sym c.loop-output.invariant.floor)
+    (λ input. took_put f g.G.Told.draws a (turns_made f) record_of made new f.plan.b
+    (returns-clause-outputs g c record_of orders holds input.faithful) took input)
 
 pub put_out-requires-clause-room : goal.put_out-requires-clause-room
 put_out-requires-clause-room g c =

@@ -13,6 +13,7 @@ use Rattle.esa_press.specs.Drained.{AreDrained}
 use Rattle.esa_press.specs.Pressed.{Pressed}
 use Rattle.esa_press.proofs.Draining.{all_queued, all_waits, counted_then, drain_ends, drained_more, drained_none, none_passes, none_left, noted_more}
 use Rattle.esa_press.proofs.Storing.{chunks_stay, input_drained, tails_stored}
+use Rattle.esa_press.proofs.Taking.{took_drained}
 use Rattle.esa_press.proofs.press.Press.drain.Goals as goal
 
 pub loop-target-init : goal.loop-target-init
@@ -136,3 +137,15 @@ pub returns-in-Err-clause-input : goal.returns-in-Err-clause-input
 returns-in-Err-clause-input g c = λ record_of.
     let f = c.args.floor.now in
     input_drained g.V.Device.faults c.args.attempt f (g.G.Told.draws c.args.attempt) (turns_made f) record_of {T = Unit {0}} (order f.plan.b (turns_made f)) c.drain_one.new.floor (Err c.in-Err.halt) (returns-in-Err-clause-ends g c)
+
+pub returns-clause-took : goal.returns-clause-took
+returns-clause-took g c = λ record_of made queues.
+    let f = c.args.floor.now in
+    let a = c.args.attempt in
+    took_drained f g.G.Told.draws a (turns_made f) record_of made g.V.Device.faults (sym c.requires.spread.writes ∙ c.requires.all) queues {T = Unit {0}} c.loop-target.floor (Ok tt) (returns-clause-ends g c)
+
+pub returns-in-Err-clause-took : goal.returns-in-Err-clause-took
+returns-in-Err-clause-took g c = λ record_of made queues.
+    let f = c.args.floor.now in
+    let a = c.args.attempt in
+    took_drained f g.G.Told.draws a (turns_made f) record_of made g.V.Device.faults (sym c.requires.spread.writes ∙ c.requires.all) queues {T = Unit {0}} c.drain_one.new.floor (Err c.in-Err.halt) (returns-in-Err-clause-ends g c)

@@ -125,6 +125,7 @@ returns-clause-puts g c = λ record_of before planned orders holds so_far faithf
     let still = pressing_faithful f.plan mid.log new.log on faithful in
     let here_waits = c.in_default.ensures.keeps record_of planned orders (holds_on f.plan f.run d h a record_of j before f.recorder.log so_far.log holds) still waits in
     output_put f.plan f.run d h a record_of g.V.Device.told g.V.Device.faults g.V.Device.last_call j i before mid new w.queue c.put.new.self.queue c.put.result
+    c.requires.output c.requires.counted.all
     (λ enough. ap (take (size f.plan j)) here_waits
     ∙ queue-front f.plan d h c.requires.counted.drawn c.requires.counted.all c.requires.counted.fits record_of j i c.requires.within (omega (arith, enough, next, put, long)))
     (ap (drop (size f.plan j)) here_waits ∙ queue-put f.plan d h c.requires.counted.drawn c.requires.counted.all c.requires.counted.fits record_of j i)

@@ -1,0 +1,77 @@
+-- What the writes of a run took, of every attempt: the seals of the records of their blocks.
+use Rattle.std.specs.Prelude.{◌≡◌, ◌≢◌, ℕ, ◌+◌, ◌/◌, ◌%◌, ◌<◌, ◌≤◌, ◌==◌, List, [], All, Some, count_by, map, slice_index_or}
+use Rattle.esa_device.specs.Logs.{Carried, latest_carried}
+use Rattle.esa_envelope.specs.declared.keys.Keys.{Keys}
+use Rattle.esa_params.specs.Sizes.{Sizes}
+use Rattle.esa_params.specs.Slots.{IsPlanned, at, item_length, number_of}
+use Rattle.esa_params.specs.declared.slot.Access.{Access}
+use Rattle.esa_params.specs.declared.slot.Op.TheVariants.{Write as Writes}
+use Rattle.esa_params.specs.declared.slot.Region.{Region}
+use Rattle.esa_params.specs.declared.slot.Region.TheVariants.{Input, Mid, Tail, Output}
+use Rattle.esa_params.specs.declared.slot.Slot.{Slot}
+use Rattle.esa_report.specs.declared.item.Item.{Item}
+use Rattle.esa_spec.specs.Draws.{Draw}
+use Rattle.esa_spec.specs.Histories.{parts}
+use Rattle.esa_spec.specs.Lines.{chunk, tail}
+use Rattle.esa_spec.specs.Places.{exchange_of, output_places}
+use Rattle.esa_spec.specs.Turns.{order}
+use Rattle.esa_stash.specs.Stash.{padded}
+use Rattle.esa_vault.specs.Filled.{text_of}
+use Rattle.esa_vault.specs.Seals.{sealed_block}
+use Rattle.esa_floor.specs.Keeping.{HasInput}
+use Rattle.esa_floor.specs.Parts.{Parts}
+
+-- the turns of an attempt: those from its owner's entry on, up to the next one
+abbrev pub attempt_turns : {V : Type 0} → Parts V → ℕ → List ℕ
+attempt_turns f a = slice_index_or (parts f.plan.workers f.history) (a + 1) []
+
+-- the items of the block at an index of a region, in an attempt with the turns h. A chunk and a tail have the records of
+-- their places, with dummies behind them, and an output bucket those of its places, in order. The input has envelopes
+abbrev pub block_items : Sizes → Draw → (ℕ → Item) → List ℕ → Region → ℕ → List Item
+block_items p d record_of h Input index = []
+block_items p d record_of h Mid index = padded p.c (map record_of (chunk p d (order p.b h) (exchange_of (order p.b h) (index / p.b)) (index % p.b)))
+block_items p d record_of h Tail index = padded p.k (map record_of (tail p d (order p.b h) index))
+block_items p d record_of h Output index = map record_of (output_places p d h index)
+
+-- the buckets from which the block has its records were exchanged: that of the chunk, or all of them
+abbrev pub AreExchanged : Sizes → List ℕ → Region → ℕ → Type 0
+AreExchanged p h Input index = Unit {0}
+AreExchanged p h Mid index = 1 ≤ count_by (λ k. k == index / p.b) (order p.b h)
+AreExchanged p h Tail index = (j : ℕ) → j < p.b → 1 ≤ count_by (λ k. k == j) (order p.b h)
+AreExchanged p h Output index = (j : ℕ) → j < p.b → 1 ≤ count_by (λ k. k == j) (order p.b h)
+
+-- the bytes are the block of an access, in an attempt with the turns h: the seal of its items for its slot and its attempt.
+-- No turn more changes it, since what it is made of was exchanged
+pub record IsBlock (p : Sizes) (run : Keys) (d : Draw) (record_of : ℕ → Item) (h : List ℕ) (access : Access) (bytes : List ℕ) : Type 0 where
+  pub exchanged : AreExchanged p h access.region access.index
+  pub sealed : bytes
+      ≡ sealed_block p run (at access.region access.index) access.attempt (text_of (item_length p.form) (block_items p d record_of h access.region access.index))
+
+-- a write names a slot of the plan. Outside the input it took the block of its access, unless it failed, by the draw and
+-- the turns of its attempt
+pub record TookItsBlock (p : Sizes) (run : Keys) (ds : ℕ → Draw) (record_of : ℕ → Item) (turns : ℕ → List ℕ) (entry : Carried) : Type 0 where
+  pub planned : entry.access.op ≡ Writes → IsPlanned p (at entry.access.region entry.access.index)
+  pub took : (bytes : List ℕ) → entry.access.op ≡ Writes → entry.access.region ≢ Input → entry.bytes ≡ Some bytes
+      → IsBlock p run (ds entry.access.attempt) record_of (turns entry.access.attempt) entry.access bytes
+
+-- so did each write of the log, where a batch with these records was loaded
+abbrev pub EachTookItsBlock : {V : Type 0} → (ℕ → Draw) → (ℕ → Item) → Parts V → Type 0
+EachTookItsBlock ds record_of f = HasInput f record_of → All (TookItsBlock f.plan f.run ds record_of (attempt_turns f)) f.recorder.log
+
+-- an access to a block of the input
+pub record IsOfInput (p : Sizes) (entry : Carried) : Type 0 where
+  pub region : entry.access.region ≡ Input
+  pub planned : entry.access.index < p.b
+
+-- the latest write of a slot is this access, and took these bytes
+abbrev pub IsLatest : {V : Type 0} → Parts V → Slot → Access → List ℕ → Type 0
+IsLatest f slot access bytes = latest_carried f.plan (number_of f.plan slot) f.recorder.log ≡ Some (record { access = access; bytes = Some bytes })
+
+-- the block of the tail of the target i in an attempt with this order of exchanges: the seal of the records of its places,
+-- with dummies behind them
+abbrev pub tail_seal : Sizes → Keys → ℕ → Draw → (ℕ → Item) → List ℕ → ℕ → List ℕ
+tail_seal p run a d record_of o i = sealed_block p run (at Tail i) a (text_of (item_length p.form) (padded p.k (map record_of (tail p d o i))))
+
+-- the block of output bucket j in an attempt with the turns h: the seal of the records of its places, in order
+abbrev pub output_seal : Sizes → Keys → ℕ → Draw → (ℕ → Item) → List ℕ → ℕ → List ℕ
+output_seal p run a d record_of h j = sealed_block p run (at Output j) a (text_of (item_length p.form) (map record_of (output_places p d h j)))
