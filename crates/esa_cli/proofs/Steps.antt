@@ -19,7 +19,7 @@ use Rattle.esa_encoding.specs.Encode.{has_shares, reports_file, encode_steps, en
 use Rattle.esa_encoding.specs.Generate.{generate_asked}
 use Rattle.esa_shuffling.specs.Batch.{batch_input, batch_work}
 use Rattle.esa_shuffling.specs.Plan.{plan_steps, plan_asked, plan_turned, plan_drawn}
-use Rattle.esa_shuffling.specs.Shuffle.{turns_file, coins_file}
+use Rattle.esa_shuffling.specs.Shuffle.{sizes_asked, turns_file, coins_file}
 use Rattle.esa_analysing.specs.Analyse.{forward_file, analyse_steps, analyse_asked, analyse_keyed, analyse_work}
 use Rattle.esa_analysing.specs.Histogram.{histogram_work}
 use Rattle.esa_analysing.specs.Database.{database_input}
@@ -61,7 +61,7 @@ unfolding plan_steps
 plan_well crew name read work is =
     well_then (job_file command.Plan crew name read) (plan_asked read) work
     (λ job. well_then (turns_file command.Plan job read) (plan_turned job read) work
-    (λ turns. well_then (coins_file command.Plan job read) (plan_drawn job turns) work (λ draws. well_made _ work refl))) is
+    (λ turns. well_then (coins_file command.Plan (sizes_asked job) job read) (plan_drawn job turns) work (λ draws. well_made _ work refl))) is
 
 pub steps_well : (crew : Bool) (call : Command × List ℕ) (read : Reads) (work : Work) → steps_of crew call read ≡ accepted work → work.ended ≡ status.Ok
 steps_well crew (command.Gen, name) read work is = well_then (job_file command.Gen crew name read) (λ job. accepted (generate_asked job)) work (λ job. well_made _ work refl) is

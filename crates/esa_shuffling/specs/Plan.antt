@@ -49,7 +49,7 @@ plan_drawn job turns draws = accepted (plan_work (name_at job field.Trace) (size
 
 -- with the job and its turns: the coins
 abbrev pub plan_turned : Request → Reads → List (List ℕ) → Step Work
-plan_turned job read turns = coins_file Plan job read >>= plan_drawn job turns
+plan_turned job read turns = coins_file Plan (sizes_asked job) job read >>= plan_drawn job turns
 
 -- with the job: its turns
 abbrev pub plan_asked : Reads → Request → Step Work

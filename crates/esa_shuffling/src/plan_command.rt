@@ -47,7 +47,7 @@ fn take_plan<K: Cabinet>(
 {
     let job = take_job(alloc, cabinet, Command::Plan, crew_allowed, name)?;
     let turns = take_turns(alloc, cabinet, Command::Plan, &job)?;
-    let coins = take_coins(alloc, cabinet, Command::Plan, &job)?;
+    let coins = take_coins(alloc, cabinet, Command::Plan, &job, plan_of(&job))?;
     Ok(PlanInput { job, turns, coins })
 }
 

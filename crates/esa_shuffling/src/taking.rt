@@ -8,7 +8,7 @@ ghost use Rattle.esa_coins.specs.SeededCoins.{seeds_of};
 ghost use Rattle.esa_model.specs.Turns.{AreWorkers};
 ghost use Rattle.esa_command.specs.Judged.{Judged};
 ghost use Rattle.esa_command.specs.Stand.{stand};
-ghost use Rattle.esa_shuffling.specs.Shuffle.{sizes_asked, seeds_asked, turns_file, coins_file};
+ghost use Rattle.esa_shuffling.specs.Shuffle.{numbers_asked, sizes_asked, seeds_asked, turns_file, coins_file};
 ghost use Rattle.esa_shuffling.specs.Drawn.{draws_of};
 
 use esa_coins::{AnyCoins, SeededCoins, TableCoins};
@@ -40,7 +40,7 @@ pub fn take_turns<K: Cabinet>(
     requires { Needs job.now JobField.B }
     ensures judged { Judged 3 4 (λ turns. turns) (turns_file command (request_of job.now))
         (stand K.told K.faults K.heard cabinet.old) (stand K.told K.faults K.heard cabinet.new) result }
-    ensures workers { IfOk result (λ turns. AreWorkers (sizes_asked (request_of job.now)).workers turns) }
+    ensures workers { IfOk result (λ turns. AreWorkers (numbers_asked (request_of job.now)).workers turns) }
 {
     match job.turns() {
         None => Ok(Turns::none(alloc)),
@@ -53,35 +53,32 @@ pub fn take_turns<K: Cabinet>(
     }
 }
 
-/// The coins that a job's seed draws.
-fn seeded(job: &Job) -> SeededCoins
-    requires parameters { Needs job.now JobField.B }
-    requires records { Needs job.now JobField.Records }
-    ensures { seeds_of result ≡ seeds_asked (request_of job.now) }
+/// The coins that a job's seed draws for a plan.
+fn seeded(job: &Job, plan: Plan) -> SeededCoins
+    ensures { seeds_of result ≡ seeds_asked plan (request_of job.now) }
 {
     let seed = job.seed().unwrap_or([0; 32]);
     let draw = job.draw().unwrap_or(Draw::Single);
-    SeededCoins::make(seed, draw, plan_of(job))
+    SeededCoins::make(seed, draw, plan)
 }
 
-/// Reads the coins of a job, where it names a file for them, and else draws them from its seed.
+/// Reads the coins of a job for a plan, where it names a file for them, and else draws them from its seed.
 pub fn take_coins<K: Cabinet>(
     alloc: Global,
     cabinet: &mut K,
     command: Command,
     job: &Job,
+    plan: Plan,
 ) -> Result<AnyCoins, Stop>
-    requires parameters { Needs job.now JobField.B }
-    requires records { Needs job.now JobField.Records }
-    ensures judged { Judged 5 6 draws_of (coins_file command (request_of job.now))
+    ensures judged { Judged 5 6 draws_of (coins_file command plan (request_of job.now))
         (stand K.told K.faults K.heard cabinet.old) (stand K.told K.faults K.heard cabinet.new) result }
-    ensures plan { IfOk result (λ coins. any_plan coins ≡ sizes_asked (request_of job.now)) }
+    ensures plan { IfOk result (λ coins. any_plan coins ≡ plan) }
 {
     match job.coins() {
-        None => Ok(AnyCoins::Seeded(seeded(job))),
+        None => Ok(AnyCoins::Seeded(seeded(job, plan))),
         Some(name) => {
             let bytes = read_file(alloc, cabinet, command, Source::Coins, name)?;
-            let coins = TableCoins::read(alloc, &bytes, plan_of(job))?;
+            let coins = TableCoins::read(alloc, &bytes, plan)?;
             Ok(AnyCoins::Table(coins))
         }
     }

@@ -9,5 +9,5 @@ returns c =
     ∙ (λ i. record {
       seed = (c.unwrap_or-seed.ensures ∙ ap (λ seed. unwrap_or seed (replicate 32 0)) c.seed.ensures) i;
       draw = (c.unwrap_or-draw.ensures ∙ ap (λ draw. unwrap_or draw Single) c.draw.ensures) i;
-      plan = c.plan_of.ensures.value i;
+      plan = c.args.plan;
     })

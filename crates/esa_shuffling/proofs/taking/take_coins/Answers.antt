@@ -18,7 +18,7 @@ use Rattle.esa_command.specs.Taking.{read_step}
 use Rattle.esa_command.proofs.Composition.{judged_stop, judged_made, judged_steps, judged_already}
 use Rattle.esa_command.proofs.Readers.{judged_stops}
 use Rattle.esa_shuffling.specs.Drawn.{draws_of}
-use Rattle.esa_shuffling.specs.Shuffle.{sizes_asked, seeds_asked, seeded_draws, table_draws, where_named, read_coins, coins_file}
+use Rattle.esa_shuffling.specs.Shuffle.{seeds_asked, seeded_draws, table_draws, where_named, read_coins, coins_file}
 use Rattle.esa_shuffling.proofs.taking.take_coins.Goals as goal
 
 pub returns-in-None-clause-judged : goal.returns-in-None-clause-judged
@@ -26,10 +26,11 @@ unfolding coins_file
 returns-in-None-clause-judged g c =
     let job = request_of c.args.job.now in
     let command = c.args.command in
+    let plan = c.args.plan in
     let before = stand g.K.Cabinet.told g.K.Cabinet.faults g.K.Cabinet.heard c.args.cabinet.now in
     let none : name_at job field.Coins ≡ None = sym c.coins.ensures ∙ ap (option_map (λ name. name.now)) c.in-None.is in
-    judged_already 5 6 draws_of (coins_file command job) before (Seeded c.seeded.result) (omega arith)
-    (λ read. (λ i. where_named (none i) (read_coins command job read) (seeded_draws (seeds_asked job))) ∙ ap (λ seeds. accepted (seeded_draws seeds)) (sym c.seeded.ensures))
+    judged_already 5 6 draws_of (coins_file command plan job) before (Seeded c.seeded.result) (omega arith)
+    (λ read. (λ i. where_named (none i) (read_coins command plan read) (seeded_draws (seeds_asked plan job))) ∙ ap (λ seeds. accepted (seeded_draws seeds)) (sym c.seeded.ensures))
 
 pub returns-in_err-bytes-in-Some-clause-judged : goal.returns-in_err-bytes-in-Some-clause-judged
 unfolding coins_file
@@ -38,11 +39,12 @@ returns-in_err-bytes-in-Some-clause-judged g c =
     let stands = stand g.K.Cabinet.told g.K.Cabinet.faults g.K.Cabinet.heard in
     let job = request_of c.args.job.now in
     let command = c.args.command in
+    let plan = c.args.plan in
     let name = c.in-Some.name.now in
     let named : name_at job field.Coins ≡ Some name = sym c.coins.ensures ∙ ap (option_map (λ name. name.now)) c.in-Some.is in
-    rw (p.1, p.2) (judged_steps 5 6 draws_of (λ read. read_coins command job read name) (coins_file command job) (stands c.args.cabinet.now) (stands c.read_file.new.cabinet) _
-    (λ i read. where_named (sym named i) (read_coins command job read) (seeded_draws (seeds_asked job)))
-    (judged_stop 5 5 6 6 (λ bytes. bytes.items) draws_of (file command source.Coins name) (λ _ bytes. read_step refusal.Coins (tables_in (sizes_asked job) bytes) >>= λ tables. accepted (table_draws (sizes_asked job) tables))
+    rw (p.1, p.2) (judged_steps 5 6 draws_of (λ read. read_coins command plan read name) (coins_file command plan job) (stands c.args.cabinet.now) (stands c.read_file.new.cabinet) _
+    (λ i read. where_named (sym named i) (read_coins command plan read) (seeded_draws (seeds_asked plan job)))
+    (judged_stop 5 5 6 6 (λ bytes. bytes.items) draws_of (file command source.Coins name) (λ _ bytes. read_step refusal.Coins (tables_in plan bytes) >>= λ tables. accepted (table_draws plan tables))
     (stands c.args.cabinet.now) (stands c.read_file.new.cabinet) c.in_err-bytes-in-Some.field-0.0 (omega arith) c.in_err-bytes-in-Some.ensures))
 
 pub returns-in_err-coins-in-Some-clause-judged : goal.returns-in_err-coins-in-Some-clause-judged
@@ -52,18 +54,19 @@ returns-in_err-coins-in-Some-clause-judged g c =
     let stands = stand g.K.Cabinet.told g.K.Cabinet.faults g.K.Cabinet.heard in
     let job = request_of c.args.job.now in
     let command = c.args.command in
+    let plan = c.args.plan in
     let name = c.in-Some.name.now in
     let named : name_at job field.Coins ≡ Some name = sym c.coins.ensures ∙ ap (option_map (λ name. name.now)) c.in-Some.is in
     let error = c.in_err-coins-in-Some.field-0.0 in
     let bytes = c.in_ok-bytes-in-Some.bytes.items in
-    let same : tables_in c.plan_of.result c.deref.result.now ≡ tables_in (sizes_asked job) bytes = λ i. tables_in (c.plan_of.ensures.value i) (c.deref.ensures.value i) in
-    let refuses : (error ≡ OutOfMemory) ⊎ (tables_in (sizes_asked job) bytes ≡ Err error) =
+    let same : tables_in plan c.deref.result.now ≡ tables_in plan bytes = ap (tables_in plan) c.deref.ensures.value in
+    let refuses : (error ≡ OutOfMemory) ⊎ (tables_in plan bytes ≡ Err error) =
     subst (λ read. (error ≡ OutOfMemory) ⊎ (read ≡ Err error)) same c.in_err-coins-in-Some.ensures.first_refusal in
-    rw (p.1, p.2) (judged_steps 5 6 draws_of (λ read. read_coins command job read name) (coins_file command job) (stands c.args.cabinet.now) (stands c.read_file.new.cabinet) _
-    (λ i read. where_named (sym named i) (read_coins command job read) (seeded_draws (seeds_asked job)))
-    (judged_stops 5 6 (λ bytes. bytes.items) draws_of (file command source.Coins name) (λ bytes. read_step refusal.Coins (tables_in (sizes_asked job) bytes) >>= λ tables. accepted (table_draws (sizes_asked job) tables)) c.in_ok-bytes-in-Some.bytes
+    rw (p.1, p.2) (judged_steps 5 6 draws_of (λ read. read_coins command plan read name) (coins_file command plan job) (stands c.args.cabinet.now) (stands c.read_file.new.cabinet) _
+    (λ i read. where_named (sym named i) (read_coins command plan read) (seeded_draws (seeds_asked plan job)))
+    (judged_stops 5 6 (λ bytes. bytes.items) draws_of (file command source.Coins name) (λ bytes. read_step refusal.Coins (tables_in plan bytes) >>= λ tables. accepted (table_draws plan tables)) c.in_ok-bytes-in-Some.bytes
     (stands c.args.cabinet.now) (stands c.read_file.new.cabinet) c.in_ok-bytes-in-Some.ensures (refusal.Coins error) (stop_of_coins error) (coins_stops error)
-    (⊎_elim (λ starved. inl (ap stop_of_coins starved)) (λ is. inr (ap (λ read. read_step refusal.Coins read >>= λ tables. accepted (table_draws (sizes_asked job) tables)) is)) refuses)))
+    (⊎_elim (λ starved. inl (ap stop_of_coins starved)) (λ is. inr (ap (λ read. read_step refusal.Coins read >>= λ tables. accepted (table_draws plan tables)) is)) refuses)))
 
 pub returns-in_ok-coins-in-Some-clause-judged : goal.returns-in_ok-coins-in-Some-clause-judged
 unfolding coins_file
@@ -71,14 +74,15 @@ returns-in_ok-coins-in-Some-clause-judged g c =
     let stands = stand g.K.Cabinet.told g.K.Cabinet.faults g.K.Cabinet.heard in
     let job = request_of c.args.job.now in
     let command = c.args.command in
+    let plan = c.args.plan in
     let name = c.in-Some.name.now in
     let named : name_at job field.Coins ≡ Some name = sym c.coins.ensures ∙ ap (option_map (λ name. name.now)) c.in-Some.is in
     let bytes = c.in_ok-bytes-in-Some.bytes.items in
     let coins = c.in_ok-coins-in-Some.coins in
-    let made : tables_in (sizes_asked job) bytes ≡ Ok (tables_of coins) = (λ i. tables_in (sym c.plan_of.ensures.value i) (sym c.deref.ensures.value i)) ∙ c.in_ok-coins-in-Some.ensures.first_refusal in
-    let planned : coins.plan ≡ sizes_asked job = c.in_ok-coins-in-Some.ensures.plan ∙ c.plan_of.ensures.value in
-    judged_steps 5 6 draws_of (λ read. read_coins command job read name) (coins_file command job) (stands c.args.cabinet.now) (stands c.read_file.new.cabinet) _
-    (λ i read. where_named (sym named i) (read_coins command job read) (seeded_draws (seeds_asked job)))
-    (judged_made 5 6 (λ bytes. bytes.items) draws_of (file command source.Coins name) (λ bytes. read_step refusal.Coins (tables_in (sizes_asked job) bytes) >>= λ tables. accepted (table_draws (sizes_asked job) tables)) c.in_ok-bytes-in-Some.bytes
+    let made : tables_in plan bytes ≡ Ok (tables_of coins) = ap (tables_in plan) (sym c.deref.ensures.value) ∙ c.in_ok-coins-in-Some.ensures.first_refusal in
+    let planned : coins.plan ≡ plan = c.in_ok-coins-in-Some.ensures.plan in
+    judged_steps 5 6 draws_of (λ read. read_coins command plan read name) (coins_file command plan job) (stands c.args.cabinet.now) (stands c.read_file.new.cabinet) _
+    (λ i read. where_named (sym named i) (read_coins command plan read) (seeded_draws (seeds_asked plan job)))
+    (judged_made 5 6 (λ bytes. bytes.items) draws_of (file command source.Coins name) (λ bytes. read_step refusal.Coins (tables_in plan bytes) >>= λ tables. accepted (table_draws plan tables)) c.in_ok-bytes-in-Some.bytes
     (stands c.args.cabinet.now) (stands c.read_file.new.cabinet) c.in_ok-bytes-in-Some.ensures (Table coins)
-    (ap (λ read. read_step refusal.Coins read >>= λ tables. accepted (table_draws (sizes_asked job) tables)) made ∙ ap (λ p. accepted (table_draws p (tables_of coins))) (sym planned)))
+    (ap (λ read. read_step refusal.Coins read >>= λ tables. accepted (table_draws plan tables)) made ∙ ap (λ p. accepted (table_draws p (tables_of coins))) (sym planned)))

@@ -14,7 +14,7 @@ use Rattle.esa_command.specs.Step.{accepted, file}
 use Rattle.esa_command.specs.Taking.{read_step}
 use Rattle.esa_command.proofs.Composition.{judged_stop, judged_steps, judged_already}
 use Rattle.esa_command.proofs.Readers.{judged_read, judged_unread}
-use Rattle.esa_shuffling.specs.Shuffle.{sizes_asked, where_named, read_turns, turns_file}
+use Rattle.esa_shuffling.specs.Shuffle.{numbers_asked, where_named, read_turns, turns_file}
 use Rattle.esa_shuffling.proofs.taking.take_turns.Goals as goal
 
 pub returns-in-None-clause-judged : goal.returns-in-None-clause-judged
@@ -36,7 +36,7 @@ returns-in_err-bytes-in-Some-clause-judged g c =
     let command = c.args.command in
     let name = c.in-Some.name.now in
     let named : name_at job field.Turns ≡ Some name = sym c.turns.ensures ∙ ap (option_map (λ name. name.now)) c.in-Some.is in
-    let reader = turns_of (sizes_asked job).workers (sizes_asked job).attempts in
+    let reader = turns_of (numbers_asked job).workers (numbers_asked job).attempts in
     rw (p.1, p.2) (judged_steps 3 4 (λ turns. turns) (λ read. read_turns command job read name) (turns_file command job) (stands c.args.cabinet.now) (stands c.read_file.new.cabinet) _
     (λ i read. where_named (sym named i) (read_turns command job read) [])
     (judged_stop 3 3 4 4 (λ bytes. bytes.items) (λ turns. turns) (file command source.Turns name) (λ _ bytes. read_step turns_refusal (reader bytes))
@@ -51,10 +51,10 @@ returns-in_err-turns-in-Some-clause-judged g c =
     let command = c.args.command in
     let name = c.in-Some.name.now in
     let named : name_at job field.Turns ≡ Some name = sym c.turns.ensures ∙ ap (option_map (λ name. name.now)) c.in-Some.is in
-    let reader = turns_of (sizes_asked job).workers (sizes_asked job).attempts in
+    let reader = turns_of (numbers_asked job).workers (numbers_asked job).attempts in
     let error = c.in_err-turns-in-Some.field-0.0 in
-    let workers : c.workers.result ≡ (sizes_asked job).workers = c.workers.ensures.value ∙ ap (λ numbers. numbers.workers) c.settings-settings.ensures in
-    let attempts : c.attempts.result ≡ (sizes_asked job).attempts = c.attempts.ensures.value ∙ ap (λ numbers. numbers.attempts) c.settings-settings.ensures in
+    let workers : c.workers.result ≡ (numbers_asked job).workers = c.workers.ensures.value ∙ ap (λ numbers. numbers.workers) c.settings-settings.ensures in
+    let attempts : c.attempts.result ≡ (numbers_asked job).attempts = c.attempts.ensures.value ∙ ap (λ numbers. numbers.attempts) c.settings-settings.ensures in
     let same : turns_of c.workers.result c.attempts.result c.deref.result.now ≡ reader c.in_ok-bytes-in-Some.bytes.items = λ i. turns_of (workers i) (attempts i) (c.deref.ensures.value i) in
     rw (p.1, p.2) (judged_steps 3 4 (λ turns. turns) (λ read. read_turns command job read name) (turns_file command job) (stands c.args.cabinet.now) (stands c.read_file.new.cabinet) _
     (λ i read. where_named (sym named i) (read_turns command job read) [])
@@ -70,9 +70,9 @@ returns-in_ok-turns-in-Some-clause-judged g c =
     let command = c.args.command in
     let name = c.in-Some.name.now in
     let named : name_at job field.Turns ≡ Some name = sym c.turns.ensures ∙ ap (option_map (λ name. name.now)) c.in-Some.is in
-    let reader = turns_of (sizes_asked job).workers (sizes_asked job).attempts in
-    let workers : c.workers.result ≡ (sizes_asked job).workers = c.workers.ensures.value ∙ ap (λ numbers. numbers.workers) c.settings-settings.ensures in
-    let attempts : c.attempts.result ≡ (sizes_asked job).attempts = c.attempts.ensures.value ∙ ap (λ numbers. numbers.attempts) c.settings-settings.ensures in
+    let reader = turns_of (numbers_asked job).workers (numbers_asked job).attempts in
+    let workers : c.workers.result ≡ (numbers_asked job).workers = c.workers.ensures.value ∙ ap (λ numbers. numbers.workers) c.settings-settings.ensures in
+    let attempts : c.attempts.result ≡ (numbers_asked job).attempts = c.attempts.ensures.value ∙ ap (λ numbers. numbers.attempts) c.settings-settings.ensures in
     let same : turns_of c.workers.result c.attempts.result c.deref.result.now ≡ reader c.in_ok-bytes-in-Some.bytes.items = λ i. turns_of (workers i) (attempts i) (c.deref.ensures.value i) in
     judged_steps 3 4 (λ turns. turns) (λ read. read_turns command job read name) (turns_file command job) (stands c.args.cabinet.now) (stands c.read_file.new.cabinet) _
     (λ i read. where_named (sym named i) (read_turns command job read) [])
