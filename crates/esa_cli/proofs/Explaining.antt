@@ -47,7 +47,7 @@ module _ (call : Command × List ℕ) (cabinet cabinet_now : Stand Files) (print
   work_ended : (done : Does (steps_of false call) cabinet cabinet_now printer middle end) → status_in end ≡ status_in (ending status.Ok done.settles.went)
   work_ended done =
       let read = reads_by done.judged.given in
-      let is = (done.judged.answers read (agree_by 0 6 done.judged.given done.judged.once)).0 in
+      let is = (done.judged.answers read (agree_by 0 22 done.judged.given done.judged.once)).0 in
       ap status_in done.settles.ended ∙ ap (λ ended. status_in (ending ended done.settles.went)) (steps_well false call read done.work is)
 
   not_usage : Ends (steps_of false call) cabinet cabinet_now printer middle end → status_in end ≡ status.Usage → ⊥
@@ -71,8 +71,9 @@ module _ (steps : Reads → Step Work) (files : Files) (before now : ℕ) (left 
   unread source.Keys reached cause unchanged = record { reached = reached; cause = cause; unchanged = unchanged }
   unread source.Drops reached cause unchanged = record { reached = reached; cause = cause; unchanged = unchanged }
   unread source.Turns reached cause unchanged = record { reached = reached; cause = cause; unchanged = unchanged }
-  unread source.Input reached cause unchanged = record { reached = reached; cause = cause; unchanged = unchanged }
+  unread source.Input reached cause unchanged = inl (record { reached = reached; cause = cause; unchanged = unchanged })
   unread source.Coins reached cause unchanged = record { reached = reached; cause = cause; unchanged = unchanged }
+  unread (source.Inputs place) reached cause unchanged = inr (place, record { reached = reached; cause = cause; unchanged = unchanged })
 
   -- the file that isn't there is one of these
   lacks : (told : Option Files) (source : Source) → told ≡ Some files → Rose before now ⊎ IsMissing told steps source → Rose before now ⊎ (steps (reads_of files) ≡ missing source)
@@ -90,13 +91,13 @@ module _ (steps : Reads → Step Work) (files : Files) (cabinet cabinet_now : St
   missing_of : (source : Source) → Rose cabinet.faults cabinet_now.faults ⊎ IsMissing cabinet.told steps source → Rose cabinet.faults cabinet_now.faults ⊎ (steps (reads_of files) ≡ missing source)
   missing_of source why = lacks steps files cabinet.faults cabinet_now.faults left cabinet.told source told why
 
-  stopped_for : (stop : Stop) → StopsBy steps 0 6 cabinet cabinet_now stop (reads_of files) → left ≡ Some files → Explains steps files cabinet.faults cabinet_now.faults left (status_of stop)
+  stopped_for : (stop : Stop) → StopsBy steps 0 22 cabinet cabinet_now stop (reads_of files) → left ≡ Some files → Explains steps files cabinet.faults cabinet_now.faults left (status_of stop)
   stopped_for (Refused refusal) by unchanged = (by.0, unchanged)
   stopped_for (Unread source) by unchanged = unread steps files cabinet.faults cabinet_now.faults left source by.2 (missing_of source by.3) unchanged
   stopped_for OutOfMemory by unchanged = unchanged
 
   -- an accepted input isn't refused, and no file is missing
-  no_stop : (stop : Stop) (work : Work) → StopsBy steps 0 6 cabinet cabinet_now stop (reads_of files) → steps (reads_of files) ≡ accepted work → ¬ Rose cabinet.faults cabinet_now.faults → status_of stop ≡ status.OutOfMemory
+  no_stop : (stop : Stop) (work : Work) → StopsBy steps 0 22 cabinet cabinet_now stop (reads_of files) → steps (reads_of files) ≡ accepted work → ¬ Rose cabinet.faults cabinet_now.faults → status_of stop ≡ status.OutOfMemory
   no_stop (Refused refusal) work by accepts still = absurd (let never : refused refusal ≡ accepted work = sym by.0 ∙ accepts in cc)
   no_stop (Unread source) work by accepts still = elim (missing_of source by.3) [
     | inl rose ↦ absurd (still rose)

@@ -46,6 +46,7 @@ module _ (told : Option Files) (before now printer_before printer : ℕ) where
   unread_counted source.Turns why = why
   unread_counted source.Input why = why
   unread_counted source.Coins why = why
+  unread_counted (source.Inputs place) why = why
 
   some_missing : {A : Type 0} (steps : Reads → Step A) (source : Source) → Rose before now ⊎ IsMissing told steps source → Rose before now ⊎ IsSome told
   some_missing steps source (inl rose) = inl rose
@@ -60,7 +61,7 @@ module _ (told : Option Files) (before now printer_before printer : ℕ) where
   went_counted middle printer_middle unprinted kept counts quiet quiet_too = (counts.0 ∙ kept, subst (λ n. Rose printer_before n) (sym (quiet_too refl)) counts.1)
 
 module _ (cabinet cabinet_now : Stand Files) (printer_before printer : ℕ) where
-  stop_counted : (steps : Reads → Step Work) (read : Reads) (stop : Stop) → StopsBy steps 0 6 cabinet cabinet_now stop read → EndCounted cabinet.told cabinet.faults cabinet_now.faults printer_before printer (status_of stop)
+  stop_counted : (steps : Reads → Step Work) (read : Reads) (stop : Stop) → StopsBy steps 0 22 cabinet cabinet_now stop read → EndCounted cabinet.told cabinet.faults cabinet_now.faults printer_before printer (status_of stop)
   stop_counted steps read (Refused refusal) by = (by.1, by.2)
   stop_counted steps read (Unread source) by =
       unread_counted cabinet.told cabinet.faults cabinet_now.faults printer_before printer source (some_missing cabinet.told cabinet.faults cabinet_now.faults printer_before printer steps source by.3)
@@ -71,7 +72,7 @@ module _ (call : Command × List ℕ) (cabinet cabinet_now : Stand Files) (print
   done_as : (done : Does (steps_of false call) cabinet cabinet_now printer middle end) → end ≡ ending status.Ok done.settles.went
   done_as done =
       let read = reads_by done.judged.given in
-      let is = (done.judged.answers read (agree_by 0 6 done.judged.given done.judged.once)).0 in
+      let is = (done.judged.answers read (agree_by 0 22 done.judged.given done.judged.once)).0 in
       done.settles.ended ∙ ap (λ ended. ending ended done.settles.went) (steps_well false call read done.work is)
 
   counted : Ends (steps_of false call) cabinet cabinet_now printer middle end → EndCounted cabinet.told cabinet.faults cabinet_now.faults printer.faults printer_now.faults (status_in end)
@@ -79,7 +80,7 @@ module _ (call : Command × List ℕ) (cabinet cabinet_now : Stand Files) (print
       let j = stopped.judged in
       let read = reads_by j.given in
       subst (EndCounted cabinet.told cabinet.faults cabinet_now.faults printer.faults printer_now.faults) (sym (ap status_in stopped.ended))
-      (stop_counted cabinet cabinet_now printer.faults printer_now.faults (steps_of false call) read stopped.stop (j.answers read (agree_by 0 6 j.given j.once)))
+      (stop_counted cabinet cabinet_now printer.faults printer_now.faults (steps_of false call) read stopped.stop (j.answers read (agree_by 0 22 j.given j.once)))
   counted (inr acted) =
       let done = does_asked (steps_of false call) cabinet cabinet_now printer middle end acted in
       let j = done.judged in
@@ -90,7 +91,7 @@ module _ (call : Command × List ℕ) (cabinet cabinet_now : Stand Files) (print
         | inr cut ↦ ap (λ p. p.faults) (subst (λ e. Tells e middle printer_now) (done_as done ∙ ap (ending status.Ok) (is ∙ cut)) tells)
       ] in
       subst (EndCounted cabinet.told cabinet.faults cabinet_now.faults printer.faults printer_now.faults) (sym (ap status_in (done_as done)))
-      (went_counted cabinet.told cabinet.faults cabinet_now.faults printer.faults printer_now.faults done.middle.faults middle.faults done.settles.went (j.answers read (agree_by 0 6 j.given j.once)).1 done.settles.counts
+      (went_counted cabinet.told cabinet.faults cabinet_now.faults printer.faults printer_now.faults done.middle.faults middle.faults done.settles.went (j.answers read (agree_by 0 22 j.given j.once)).1 done.settles.counts
       (λ is. quiet whole (inl refl) is) (λ is. quiet unprinted (inr refl) is))
 
   -- ---- what is printed
@@ -113,6 +114,7 @@ module _ (call : Command × List ℕ) (cabinet cabinet_now : Stand Files) (print
   stop_shows (Unread source.Turns) is text told kept = own_line (status_of (Unread source.Turns)) is text told kept
   stop_shows (Unread source.Input) is text told kept = own_line (status_of (Unread source.Input)) is text told kept
   stop_shows (Unread source.Coins) is text told kept = own_line (status_of (Unread source.Coins)) is text told kept
+  stop_shows (Unread (source.Inputs place)) is text told kept = own_line (status_of (Unread (source.Inputs place))) is text told kept
   stop_shows OutOfMemory is text told kept = own_line (status_of OutOfMemory) is text told kept
 
   went_shows : (lines : List (List ℕ)) (went : Went) (text : List ℕ) → ((sink : Sink) → went ≡ unwritten sink → middle.faults ≡ printer.faults) → IsOwed (steps_of false call) cabinet.told lines → end ≡ ending status.Ok went → Prints lines text middle.told went

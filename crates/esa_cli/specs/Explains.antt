@@ -29,13 +29,17 @@ pub record IsUnread (steps : Reads → Step Work) (files : Files) (before now : 
   pub cause : Rose before now ⊎ (steps (reads_of files) ≡ missing source)
   pub unchanged : left ≡ Some files
 
+-- the input, or one of several inputs
+abbrev pub IsInputUnread : (Reads → Step Work) → Files → (before now : ℕ) → Option Files → Type 0
+IsInputUnread steps files before now left = IsUnread steps files before now left source.Input ⊎ ((place : ℕ) × IsUnread steps files before now left (source.Inputs place))
+
 -- a file of a role wasn't read or written, or a line not printed
 abbrev pub IsFault : (Reads → Step Work) → Files → (before now : ℕ) → Option Files → Role → Type 0
 IsFault steps files before now left role.Job = IsUnread steps files before now left source.Job
 IsFault steps files before now left role.Keys = IsUnread steps files before now left source.Keys
 IsFault steps files before now left role.Drops = IsUnread steps files before now left source.Drops
 IsFault steps files before now left role.Turns = IsUnread steps files before now left source.Turns
-IsFault steps files before now left role.Input = IsUnread steps files before now left source.Input
+IsFault steps files before now left role.Input = IsInputUnread steps files before now left
 IsFault steps files before now left role.Coins = IsUnread steps files before now left source.Coins
 IsFault steps files before now left role.Output = Accepts steps files (λ work. BreaksAt sink.Output files work.writes left)
 IsFault steps files before now left role.Trace = Accepts steps files (λ work. BreaksAt sink.Trace files work.writes left)

@@ -1,5 +1,6 @@
 -- What reading one file says of the step that reads it, be it read whole, in pieces or not to its end.
 use Rattle.std.proofs.Common.{◌≡◌, ◌⊎◌, ℕ, ◌+◌, true, cond, List, [], ◌∷◌, ◌++◌, Option, Some, None, Result, Err, refl, sym, ap, ◌∙◌, append-nil, arith}
+use Rattle.std.proofs.lemmas.Bool.{eq-eqb}
 use Rattle.std.specs.FinMap as map
 use Rattle.esa_lists.specs.Files.{Files}
 use Rattle.esa_outside.specs.Cause.{Rose}
@@ -20,6 +21,7 @@ is_same source.Drops = refl
 is_same source.Turns = refl
 is_same source.Input = refl
 is_same source.Coins = refl
+is_same (source.Inputs place) = eq-eqb (6 + place) (6 + place) refl
 
 -- `step` says what is made of what is read of it
 module _ {X A : Type 0} (view : X → A) (s : Source) (name : List ℕ) (step : Option (List ℕ) → Step A) (before now : Stand Files) (still : now.told ≡ before.told) where

@@ -11,11 +11,13 @@ use Rattle.esa_command.specs.Stand.{Stand}
 use Rattle.esa_command.specs.Step.{Step, Reads}
 use Rattle.esa_command.specs.Work.{Work}
 
+-- Files are read in 22 places: those of the six roles, and then those of sixteen inputs, which are read one after another.
+
 -- It stopped before it acted, nothing was written or printed, and what else it has is idle.
 pub record Stops {A : Type 0} (idle : Type 0) (steps : Reads → Step A) (cabinet cabinet_now : Stand Files) (printer printer_now : Stand (List ℕ)) (end : End) : Type 0 where
   pub stop : Stop
   pub ended : end ≡ Stopped (status_of stop)
-  pub judged : Judged {X = A} 0 6 (λ asked. asked) steps cabinet cabinet_now (Err stop)
+  pub judged : Judged {X = A} 0 22 (λ asked. asked) steps cabinet cabinet_now (Err stop)
   pub printer_stands : printer_now ≡ printer
   pub idles : idle
 
@@ -24,7 +26,7 @@ pub record Stops {A : Type 0} (idle : Type 0) (steps : Reads → Step A) (cabine
 pub record Works {A : Type 0} (Owes : A → Stand Files → Stand Files → Work → Type 0) (steps : Reads → Step A) (cabinet cabinet_now : Stand Files) (printer printer_now : Stand (List ℕ)) (end : End) : Type 0 where
   pub asked : A
   pub taken : Stand Files
-  pub judged : Judged 0 6 (λ asked. asked) steps cabinet taken (Ok asked)
+  pub judged : Judged 0 22 (λ asked. asked) steps cabinet taken (Ok asked)
   pub work : Work
   pub acted : Stand Files
   pub owes : Owes asked taken acted work

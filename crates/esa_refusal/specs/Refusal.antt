@@ -58,6 +58,10 @@ cause_word cause.BadHex = codes "bad-hex"
 abbrev pub line_text : LineRefused → List ℕ
 line_text refused = numbered (codes "line ") refused.line ++ (codes " " ++ cause_word refused.cause)
 
+-- in which file a line is refused, which line, and why
+abbrev pub file_text : ℕ → LineRefused → List ℕ
+file_text file refused = numbered (codes "file ") file ++ (codes " " ++ line_text refused)
+
 -- what is wrong with a forward file
 abbrev pub forward_text : ForwardRefused → List ℕ
 forward_text (forward.Cut cut) = cut_text cut
@@ -93,6 +97,7 @@ refusal_text (refusal.Line refused) = line_text refused
 refusal_text (refusal.Lines n) = numbered (codes "lines ") n
 refusal_text (refusal.Forward refused) = codes "forward " ++ forward_text refused
 refusal_text (refusal.Database refused) = codes "database " ++ database_text refused
+refusal_text (refusal.File file refused) = file_text file refused
 refusal_text refusal.SharesSum = codes "shares sum"
 refusal_text (refusal.NotBuilt command) = codes "not-built " ++ command_word command
 

@@ -1,7 +1,7 @@
 //! Why a command was refused, and the text that says so.
 
 ghost use Rattle.std.specs.Prelude.{◌≡◌, ◌+◌, ◌≤◌, ◌++◌, length, codes};
-ghost use Rattle.esa_refusal.specs.Refusal.{refusal_text, coins_text, batch_text, cause_word, line_text, forward_text, database_text, cut_text, numbered};
+ghost use Rattle.esa_refusal.specs.Refusal.{refusal_text, coins_text, batch_text, cause_word, line_text, file_text, forward_text, database_text, cut_text, numbered};
 
 use crate::line::Line;
 use crate::words::{word_of_param, word_of_role};
@@ -47,6 +47,13 @@ pub enum Refusal {
     Forward(ForwardRefused),
     /// The database file breaks its format.
     Database(DbRefused),
+    /// A line of one of several files of submissions.
+    File {
+        /// The file's number among them, counted from 1.
+        file: u32,
+        /// The line, and why it is refused.
+        refused: LineRefused,
+    },
     /// The counts of a database and its number unopened add up to more than 4,294,967,295.
     SharesSum,
     /// The command isn't built yet.
@@ -71,6 +78,7 @@ pub fn add_refusal(line: &mut Line, refusal: &Refusal)
         Refusal::Lines { n } => add_numbered(line, "lines ", *n),
         Refusal::Forward(refused) => add_forward(line, refused),
         Refusal::Database(refused) => add_database(line, refused),
+        Refusal::File { file, refused } => add_file(line, *file, refused),
         Refusal::SharesSum => line.word("shares sum"),
         Refusal::NotBuilt(command) => add_pair(line, "not-built ", command.word()),
     }
@@ -200,9 +208,19 @@ fn word_of_cause(cause: LineCause) -> &'static str
     }
 }
 
+// Adds in which file a line is refused, which line, and why.
+fn add_file(line: &mut Line, file: u32, refused: &LineRefused)
+    requires { length line.old ≤ 20 }
+    ensures { line.new ≡ line.old ++ file_text file refused.now }
+{
+    add_numbered(line, "file ", u64::from(file));
+    line.word(" ");
+    add_line(line, refused);
+}
+
 // Adds which line is refused, and why.
 fn add_line(line: &mut Line, refused: &LineRefused)
-    requires { length line.old ≤ 20 }
+    requires { length line.old ≤ 60 }
     ensures { line.new ≡ line.old ++ line_text refused.now }
 {
     add_numbered(line, "line ", refused.line);

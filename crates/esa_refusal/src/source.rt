@@ -15,6 +15,8 @@ pub enum Source {
     Turns,
     Input,
     Coins,
+    /// One of several inputs, by its place among them, counted from 0.
+    Inputs(u32),
 }
 
 impl Source {
@@ -26,7 +28,7 @@ impl Source {
             Source::Keys => Role::Keys,
             Source::Drops => Role::Drops,
             Source::Turns => Role::Turns,
-            Source::Input => Role::Input,
+            Source::Input | Source::Inputs(_) => Role::Input,
             Source::Coins => Role::Coins,
         }
     }
@@ -38,7 +40,7 @@ impl Source {
         match self {
             Source::Job | Source::Keys | Source::Drops => 65_536,
             Source::Turns | Source::Coins => 16_777_216,
-            Source::Input => most_input(command),
+            Source::Input | Source::Inputs(_) => most_input(command),
         }
     }
 }

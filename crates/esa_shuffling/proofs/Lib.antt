@@ -1,2 +1,2 @@
-mod Batching
+pub mod Batching
 mod Turning

@@ -78,7 +78,7 @@ fn batched_line(batch: &Batch) -> Line
 }
 
 /// Writes the batch and prints how many records it has.
-fn work_batch<K: Cabinet, P: Printer>(
+pub fn work_batch<K: Cabinet, P: Printer>(
     cabinet: &mut K,
     printer: &mut P,
     output: &str,

@@ -6,6 +6,6 @@ mod batch_command;
 mod plan_command;
 mod taking;
 
-pub use batch_command::batch;
+pub use batch_command::{batch, work_batch};
 pub use plan_command::plan;
 pub use taking::{plan_of, take_coins, take_turns};

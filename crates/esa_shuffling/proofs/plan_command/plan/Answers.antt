@@ -29,3 +29,10 @@ returns-in-Ok-foretell_plan g c =
     let printer = stand g.P.Printer.told g.P.Printer.faults g.P.Printer.heard in
     ends_work plan_taken (plan_steps c.args.crew_allowed c.args.name.now) (cabinet c.args.cabinet.now) (cabinet c.take_plan.new.cabinet) (cabinet c.foretell_plan.new.cabinet)
     (printer c.args.printer.now) (printer c.foretell_plan.new.printer) c.in-Ok-foretell_plan.end c.in-Ok.input c.in-Ok.ensures.judged c.in-Ok-foretell_plan.ensures
+
+pub returns : goal.returns
+returns g c =
+    let cabinet = stand g.K.Cabinet.told g.K.Cabinet.faults g.K.Cabinet.heard in
+    let printer = stand g.P.Printer.told g.P.Printer.faults g.P.Printer.heard in
+    ends_stop plan_taken (plan_steps c.args.crew_allowed c.args.name.now) (cabinet c.args.cabinet.now) (cabinet c.take_plan.new.cabinet) (printer c.args.printer.now)
+    c.in-Err.stop c.from.result c.from.ensures c.in-Err.ensures.judged
