@@ -1,5 +1,5 @@
 -- One more share record of a group.
-use Rattle.std.proofs.Common.{◌≡◌, ◌≢◌, ℕ, suc, ◌+◌, ◌-◌, ◌*◌, ◌<◌, ◌≤◌, Bool, true, false, cond, ◌||◌, ◌&&◌, ◌==◌, nat_eq, nat_lt, nat_le, List, [], ◌∷◌, ◌++◌, map, flat_map, length, drop, slice_index, Option, Some, None, All, refl, sym, ap, subst, ◌∙◌, arith, append-nil, length-append, suc-mul}
+use Rattle.std.proofs.Common.{◌≡◌, ◌≢◌, ℕ, suc, ◌+◌, ◌-◌, ◌*◌, ◌<◌, ◌≤◌, Bool, true, false, cond, ◌||◌, ◌&&◌, ◌==◌, nat_eq, nat_lt, nat_le, List, [], ◌∷◌, ◌++◌, map, flat_map, length, drop, slice_index, None, All, refl, sym, ap, subst, ◌∙◌, arith, append-nil, length-append, suc-mul}
 use Rattle.std.specs.List.{IsDistinct, list_any}
 use Rattle.std.proofs.lemmas.Bool.{lt-ltb, le-ltb, eq-eqb, ne_eqb, ltb-true, leb-true}
 use Rattle.std.proofs.lemmas.Cmp.{nat_eq_equiv}
@@ -9,9 +9,8 @@ use Rattle.std.proofs.lemmas.List.Elements.{All-append, All-cons}
 use Rattle.std.proofs.lemmas.Map.Keys.{IsDistinct-push}
 use Rattle.esa_shares.specs.Polynomial.{ArePoints, recovered}
 use Rattle.esa_shares.specs.Share.{is_share}
-use Rattle.esa_recovery.specs.declared.group.Group.{Group}
 use Rattle.esa_recovery.specs.Meaning.{group_of, point_in, share_in, needed, is_seen, marked, opening}
-use Rattle.esa_recovery.specs.Group.{HasTaken, GroupHas, taken_with}
+use Rattle.esa_recovery.specs.Group.{HasTaken, taken_with}
 
 or_left : (a b : Bool) → a ≡ true → (a || b) ≡ true
 or_left true b h = refl
@@ -33,7 +32,7 @@ pub opening-few : (group : List ℕ) (values : List (List ℕ)) → length value
 opening-few group values few =
     ap (λ b. cond b None (marked (drop 2 group) (recovered (slice_index group 1 - 19) (map point_in values) (flat_map share_in values)))) (lt-ltb (length values) (needed group) few)
 
-pub opening-enough : (group : List ℕ) (values : List (List ℕ)) → length values ≡ needed group
+pub opening-enough : (group : List ℕ) (values : List (List ℕ)) → needed group ≤ length values
     → opening group values ≡ marked (drop 2 group) (recovered (slice_index group 1 - 19) (map point_in values) (flat_map share_in values))
 opening-enough group values enough =
     ap (λ b. cond b None (marked (drop 2 group) (recovered (slice_index group 1 - 19) (map point_in values) (flat_map share_in values)))) (le-ltb (length values) (needed group) (omega arith))
@@ -45,17 +44,17 @@ ArePoints-push points point distinct nonzero new some = record {
   some = All-append (λ x. 0 < x) points (point ∷ []) nonzero (All-cons (λ x. 0 < x) point [] some (λ k d below. absurd (omega arith)));
 }
 
-module _ (group : List ℕ) (taken : List (List ℕ)) (value points shares : List ℕ) (kept : Option (List ℕ)) (has : HasTaken group taken points shares kept) where
-  many : length points ≡ length taken
+module _ (group : List ℕ) (taken : List (List ℕ)) (value points shares : List ℕ) (has : HasTaken group taken points shares) where
+  pub many : length points ≡ length taken
   many = ap length has.points_are ∙ length-map taken point_in
 
-  none_taken : (length taken == needed group || is_seen (map point_in taken) value) ≡ true → HasTaken group (taken_with group taken value) points shares kept
-  none_taken h = subst (λ t. HasTaken group t points shares kept) (sym (ap (λ b. cond b taken (taken ++ value ∷ [])) h)) has
+  none_taken : (length taken == needed group || is_seen (map point_in taken) value) ≡ true → HasTaken group (taken_with group taken value) points shares
+  none_taken h = subst (λ t. HasTaken group t points shares) (sym (ap (λ b. cond b taken (taken ++ value ∷ [])) h)) has
 
-  pub full-none : length points ≡ needed group → HasTaken group (taken_with group taken value) points shares kept
+  pub full-none : length points ≡ needed group → HasTaken group (taken_with group taken value) points shares
   full-none full = none_taken (or_left _ _ (eq-eqb (length taken) (needed group) (sym many ∙ full)))
 
-  pub seen-none : is_seen points value ≡ true → HasTaken group (taken_with group taken value) points shares kept
+  pub seen-none : is_seen points value ≡ true → HasTaken group (taken_with group taken value) points shares
   seen-none seen = none_taken (or_right (length taken == needed group) _ (ap (λ ps. is_seen ps value) (sym has.points_are) ∙ seen))
 
   -- a record is taken
@@ -64,13 +63,7 @@ module _ (group : List ℕ) (taken : List (List ℕ)) (value points shares : Lis
     one_taken = ap (λ b. cond b taken (taken ++ value ∷ []))
         (or_neither _ _ (ne_eqb (length taken) (needed group) (λ full. wanted (many ∙ full))) (ap (λ ps. is_seen ps value) (sym has.points_are) ∙ new))
 
-    pub points_more : points ++ point_in value ∷ [] ≡ map point_in (taken ++ value ∷ [])
-    points_more = ap (λ ps. ps ++ point_in value ∷ []) has.points_are ∙ sym (map-append point_in taken (value ∷ []))
-
-    pub shares_more : shares ++ share_in value ≡ flat_map share_in (taken ++ value ∷ [])
-    shares_more = ap (λ ss. ss ++ share_in value) has.shares_are ∙ ap (λ ss. flat_map share_in taken ++ ss) (sym (append-nil (share_in value))) ∙ sym (flat_map-append share_in taken (value ∷ []))
-
-    pub points_push : ArePoints (points ++ point_in value ∷ [])
+    points_push : ArePoints (points ++ point_in value ∷ [])
     points_push = ArePoints-push points (point_in value) has.distinct has.nonzero new some
 
     more : length (points ++ point_in value ∷ []) ≡ suc (length points)
@@ -85,33 +78,16 @@ module _ (group : List ℕ) (taken : List (List ℕ)) (value points shares : Lis
         less : length taken ≢ needed group → length (taken ++ value ∷ []) ≤ needed group
         less apart = omega (arith, apart, one_more, has.few)
 
-    pub one-kept : (secret : Option (List ℕ)) → secret ≡ opening group (taken ++ value ∷ [])
-        → HasTaken group (taken_with group taken value) (points ++ point_in value ∷ []) (shares ++ share_in value) secret
-    one-kept secret is = subst (λ t. HasTaken group t (points ++ point_in value ∷ []) (shares ++ share_in value) secret) (sym one_taken) (record {
-      points_are = points_more;
-      shares_are = shares_more;
+    pub one-kept : HasTaken group (taken_with group taken value) (points ++ point_in value ∷ []) (shares ++ share_in value)
+    one-kept = subst (λ t. HasTaken group t (points ++ point_in value ∷ []) (shares ++ share_in value)) (sym one_taken) (record {
+      points_are = ap (λ ps. ps ++ point_in value ∷ []) has.points_are ∙ sym (map-append point_in taken (value ∷ []));
+      shares_are = ap (λ ss. ss ++ share_in value) has.shares_are ∙ ap (λ ss. flat_map share_in taken ++ ss) (sym (append-nil (share_in value))) ∙ sym (flat_map-append share_in taken (value ∷ []));
       few = few_more;
       distinct = points_push.distinct;
       nonzero = points_push.some;
       whole = length-append shares (share_in value)
           ∙ (λ i. has.whole i + size i) ∙ sym (suc-mul (length points) (slice_index group 1 - 19)) ∙ ap (λ n. n * (slice_index group 1 - 19)) (sym more);
-      value_is = is;
     })
-
-    -- where more are wanted yet, nothing is given back
-    pub one-waits : length (points ++ point_in value ∷ []) ≢ needed group → HasTaken group (taken_with group taken value) (points ++ point_in value ∷ []) (shares ++ share_in value) kept
-    one-waits apart = one-kept kept (has.value_is ∙ opening-few group taken (omega (arith, few_more, one_more)) ∙ sym (opening-few group (taken ++ value ∷ []) (later apart)))
-      where
-        later : length (points ++ point_in value ∷ []) ≢ needed group → length (taken ++ value ∷ []) < needed group
-        later h = omega (arith, h, more, one_more, many, few_more)
-
-    -- where they are enough, it is what they give back
-    pub one-opens : length (points ++ point_in value ∷ []) ≡ needed group → (secret : Option (List ℕ))
-        → secret ≡ marked (drop 2 group) (recovered (slice_index group 1 - 19) (points ++ point_in value ∷ []) (shares ++ share_in value))
-        → HasTaken group (taken_with group taken value) (points ++ point_in value ∷ []) (shares ++ share_in value) secret
-    one-opens enough secret is = one-kept secret (
-        is ∙ (λ i. marked (drop 2 group) (recovered (slice_index group 1 - 19) (points_more i) (shares_more i)))
-        ∙ sym (opening-enough group (taken ++ value ∷ []) (one_more ∙ ap suc (sym many) ∙ sym more ∙ enough)))
 
 ends_hold : (a b c d e : Bool) → (a && b && c && d && e) ≡ true → (a ≡ true) × (e ≡ true)
 ends_hold true true true true true h = (refl, refl)
@@ -141,29 +117,13 @@ share_needed value is =
     third false b c d e h = cc
 
 -- where nothing was taken
-pub HasTaken-empty : (group : List ℕ) → 0 < needed group → HasTaken group [] [] [] None
+pub HasTaken-empty : (group : List ℕ) → HasTaken group [] [] []
 unfolding IsDistinct
-HasTaken-empty group some = record {
+HasTaken-empty group = record {
   points_are = refl;
   shares_are = refl;
   few = omega arith;
   distinct = tt;
   nonzero = λ k d below. absurd (omega arith);
   whole = omega arith;
-  value_is = sym (opening-few group [] some);
 }
-
-no_points : (taken : List (List ℕ)) → [] ≡ map point_in taken → taken ≡ []
-no_points [] h = refl
-no_points (value ∷ taken) h = absurd (omega (arith, ap length h))
-
--- what is kept, or no shares where nothing was kept
-pub GroupHas-kept : (group : List ℕ) (taken : List (List ℕ)) (kept : Option Group) (now : Group) → GroupHas group taken kept → kept ≡ Some now → GroupHas group taken (Some now)
-GroupHas-kept group taken kept now has is = subst (GroupHas group taken) is has
-
-pub GroupHas-new : (group : List ℕ) (taken : List (List ℕ)) (kept : Option Group) (now : Group) → GroupHas group taken kept → kept ≡ None → GroupHas group [] (Some now) → GroupHas group taken (Some now)
-GroupHas-new group taken kept now has is new =
-    subst (λ t. GroupHas group t (Some now)) (sym (no_points taken (points (subst (GroupHas group taken) is has)))) new
-  where
-    points : GroupHas group taken None → [] ≡ map point_in taken
-    points none = none.points_are

@@ -1,4 +1,9 @@
-pub mod GroupLaws
 pub mod FirstLaws
-pub mod SumsLaws
+pub mod GroupLaws
+pub mod MemberLaws
+pub mod NumberLaws
+pub mod SortedLaws
+pub mod RunLaws
+pub mod TakingLaws
 pub mod RecoveredLaws
+pub mod SumsLaws

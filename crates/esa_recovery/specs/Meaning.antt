@@ -46,9 +46,13 @@ opening group values =
     if nat_lt (length values) (needed group) then None
     else marked (drop 2 group) (recovered (slice_index group 1 - 19) (map point_in values) (flat_map share_in values))
 
--- a group is opened by the shares at its first points, as many as it takes
+-- what the records of a group give back: by the shares at the first points, as many as it takes
+abbrev pub given_back : List ℕ → List (List ℕ) → Option (List ℕ)
+given_back group values = opening group (take (needed group) (firsts [] values))
+
+-- what a group is opened to
 abbrev pub opened : List ℕ → List (List ℕ × ℕ) → Option (List ℕ)
-opened group rows = opening group (take (needed group) (firsts [] (members group rows)))
+opened group rows = given_back group (members group rows)
 
 -- a share record means what its group gives back, and any other value itself
 abbrev pub meaning : List (List ℕ × ℕ) → List ℕ → Option (List ℕ)

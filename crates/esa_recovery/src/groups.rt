@@ -1,52 +1,84 @@
-//! The groups of a database's share records.
+//! What the groups of a database's share records give back.
 
-ghost use Rattle.std.specs.Prelude.{◌≡◌, ◌<◌, ◌≤◌, true, false, ℕ, List, length, bytes_eq, OnOk, IfOk};
-ghost use Rattle.std.specs.Ordering.{nat_cmp};
-ghost use Rattle.std.specs.Cmp.Lexicographic.{slice_cmp};
-ghost use Rattle.std.specs.BTreeMap as tree;
-ghost use Rattle.esa_shares.specs.Share.{is_share};
-ghost use Rattle.esa_recovery.specs.Meaning.{group_of};
-ghost use Rattle.esa_recovery.specs.Group.{GroupHas, taken_with, Opens};
+ghost use Rattle.std.specs.Prelude.{◌≡◌, ◌==◌, ◌<◌, ℕ, Some, All, length, if◌then◌else◌, slice_index, IfOk};
+ghost use Rattle.std.specs.List.{list_any, slice_get};
+ghost use Rattle.std.specs.Option.{option_map};
+ghost use Rattle.esa_recovery.specs.Meaning.{given_back};
+ghost use Rattle.esa_recovery.specs.Members.{IsMember, values_at};
+ghost use Rattle.esa_recovery.specs.Groups.{given, Opens};
 
-use crate::group::{Group, key_of};
+use crate::group::Group;
+use crate::members::{Member, members_of, run_length};
 use esa_analyser::Db;
-use esa_shares::is_share;
 use std::alloc::{AllocError, Global};
-use std::collections::BTreeMap;
 
-/// What is kept of each group.
-pub(crate) type Groups = BTreeMap<[u8; 18], Group>;
-
-/// Takes a share record into its group.
-fn add(alloc: Global, groups: &mut Groups, value: &[u8]) -> Result<(), AllocError>
-    requires share { is_share value.now ≡ true }
-    requires short { length value.now ≤ 190 }
-    requires kept { (taken : List (List ℕ)) × GroupHas (group_of value.now) taken (tree.get (slice_cmp nat_cmp) groups.old (group_of value.now)) }
-    ensures taken { (taken : List (List ℕ)) → GroupHas (group_of value.now) taken (tree.get (slice_cmp nat_cmp) groups.old (group_of value.now))
-        → OnOk result (GroupHas (group_of value.now) (taken_with (group_of value.now) taken value.now) (tree.get (slice_cmp nat_cmp) groups.new (group_of value.now))) }
-    ensures others { (group : List ℕ) → bytes_eq (group_of value.now) group ≡ false
-        → OnOk result (tree.get (slice_cmp nat_cmp) groups.new group ≡ tree.get (slice_cmp nat_cmp) groups.old group) }
-{
-    let key = key_of(value);
-    if let Some(group) = groups.get_mut(&key) {
-        return group.take(alloc, value);
-    }
-    let mut group = Group::empty(alloc);
-    group.take(alloc, value)?;
-    groups.insert(key, group)?;
-    Ok(())
+/// What each group gives back, and for the row of each share record the number of its group.
+#[derive(Drop)]
+pub(crate) struct Groups {
+    pub(crate) values: Vec<Option<Vec<u8>>>,
+    pub(crate) numbers: Vec<usize>,
 }
 
-/// The groups of a database's share records.
+impl Groups {
+    /// What the group of the share record in a row gives back.
+    pub(crate) fn value(&self, row: u32) -> Option<&[u8]>
+        requires numbered { row < length self.now.numbers.items }
+        requires inside { slice_index self.now.numbers.items row < length self.now.values.items }
+        ensures { slice_get (given self.now) (slice_index self.now.numbers.items row) ≡ Some (option_map (λ value. value.now) result) }
+    {
+        match &self.values[self.numbers[row as usize]] {
+            Some(value) => Some(value.as_slice()),
+            None => None,
+        }
+    }
+}
+
+/// What the records of a group give back.
+fn opened(
+    alloc: Global,
+    db: &Db,
+    key: &[u8; 18],
+    run: &[Member],
+    group: &mut Group,
+) -> Result<Option<Vec<u8>>, AllocError>
+    requires some { 0 < length run.now }
+    requires named { All (IsMember db.now.database.rows) run.now }
+    requires one { All (λ member. member.group ≡ key.now) run.now }
+    ensures { IfOk result (λ value. option_map (λ bytes. bytes.items) value ≡ given_back key.now (values_at db.now.database.rows run.now)) }
+{
+    group.clear();
+    for member in run {
+        group.take(db.value(member.row))?;
+    }
+    group.open(alloc, key)
+}
+
+/// Writes the number of a group at the rows of its records.
+fn number_rows(run: &[Member], number: usize, numbers: &mut [usize])
+    requires { All (λ member. member.row < length numbers.old) run.now }
+    ensures { (row : ℕ) → slice_index numbers.new row ≡ (if list_any (λ member. member.row == row) run.now then number else slice_index numbers.old row) }
+{
+    for member in run {
+        numbers[member.row as usize] = number;
+    }
+}
+
+/// What the groups of a database give back. Each is opened once, with the first shares that are enough.
 pub(crate) fn groups_of(alloc: Global, db: &Db) -> Result<Groups, AllocError>
     ensures { IfOk result (λ groups. Opens db.now.database.rows groups) }
 {
-    let mut groups = BTreeMap::new(alloc);
-    for row in 0..db.rows() {
-        let value = db.value(row);
-        if is_share(value) {
-            add(alloc, &mut groups, value)?;
-        }
+    let found = members_of(alloc, db)?;
+    let mut values = Vec::new(alloc);
+    let mut numbers = vec![in alloc; 0; db.rows() as usize]?;
+    let mut group = Group::empty(alloc);
+    let mut start = 0;
+    while start < found.len() {
+        let rest = &found[start..];
+        let run = &rest[..run_length(rest)];
+        let value = opened(alloc, db, &rest[0].group, run, &mut group)?;
+        number_rows(run, values.len(), &mut numbers);
+        values.push(value)?;
+        start += run.len();
     }
-    Ok(groups)
+    Ok(Groups { values, numbers })
 }

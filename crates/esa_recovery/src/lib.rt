@@ -10,6 +10,7 @@
 mod group;
 mod groups;
 mod meanings;
+mod members;
 mod recovered;
 mod refused;
 mod spelled;

@@ -1,10 +1,8 @@
 //! What each row of a database means.
 
-ghost use Rattle.std.specs.Prelude.{◌≡◌, ◌<◌, ◌≤◌, [], true, IfOk, length, option_map, slice_index_or};
-ghost use Rattle.esa_recovery.specs.Meaning.{group_of, opened, meaning};
-ghost use Rattle.esa_shares.specs.Share.{is_share};
+ghost use Rattle.std.specs.Prelude.{◌≡◌, ◌<◌, [], IfOk, length, option_map, slice_index_or};
+ghost use Rattle.esa_recovery.specs.Meaning.{meaning};
 
-use crate::group::key_of;
 use crate::groups::{Groups, groups_of};
 use esa_analyser::Db;
 use esa_shares::is_share;
@@ -21,7 +19,7 @@ pub struct Meanings<'a> {
 
 impl<'a> Model for Meanings<'a> {
     ghost use Rattle.std.specs.Prelude.{List, ℕ};
-    ghost use Rattle.esa_recovery.specs.Group.{Opens};
+    ghost use Rattle.esa_recovery.specs.Groups.{Opens};
 
     ghost Value = { List (List ℕ × ℕ) };
 
@@ -39,18 +37,6 @@ impl<'a> Meanings<'a> {
         Ok(Meanings { db, groups })
     }
 
-    /// The value that the group of a share record gives back.
-    fn opened(&self, value: &[u8]) -> Option<&[u8]>
-        requires share { is_share value.now ≡ true }
-        requires short { length value.now ≤ 190 }
-        ensures { option_map (λ secret. secret.now) result ≡ opened (group_of value.now) self.now }
-    {
-        match self.groups.get(&key_of(value)) {
-            Some(group) => group.value(),
-            None => None,
-        }
-    }
-
     /// The value that a row, counted from 0, means, or `None` where its group does not open.
     pub fn meaning(&self, row: u32) -> Option<&[u8]>
         requires { row < length self.now }
@@ -58,7 +44,7 @@ impl<'a> Meanings<'a> {
     {
         let value = self.db.value(row);
         if is_share(value) {
-            self.opened(value)
+            self.groups.value(row)
         } else {
             Some(value)
         }
