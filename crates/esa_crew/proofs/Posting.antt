@@ -11,7 +11,8 @@ use Rattle.esa_floor.specs.Standing.{turns_made}
 use Rattle.esa_floor.specs.Workers.{IsOfFloor}
 use Rattle.esa_floor.specs.Working.{Working}
 use Rattle.esa_floor.specs.declared.floor.Roots.{Roots}
-use Rattle.esa_crew.specs.Posts.{AllHold, ArePosts, KeepsRecords, IsPost}
+use Rattle.esa_floor.specs.Keeping.{HoldsAfter}
+use Rattle.esa_crew.specs.Posts.{AllHold, ArePosts, IsPost, KeepsRecords, OthersHoldAfter}
 
 module _ {V : Type 0} (f g : Parts V) (origin : roots_of g ≡ roots_of f) where
   -- the turns of the attempt go on
@@ -62,3 +63,10 @@ all_hold ds f g workers n new inside here others all k d within = elim (cases_eq
   | inr other ↦ subst (λ (w : Working _). KeepsRecords ds g w) (sym (get_or-set_other workers n k new d other))
       (others (get_or workers k d) (all k d (let long = length-set workers n new in omega (arith, long, within))))
 ]
+
+-- the workers that didn't have the turn
+pub others_hold : {V C : Type 0} (ds : ℕ → Draw) (f g : Parts V) (h : List ℕ) (workers : List (Working C)) (n : ℕ) (new : Working C)
+    → ((other : Working C) → KeepsRecords ds f other → HoldsAfter ds h g other) → AllHold ds f workers → OthersHoldAfter ds h n g (set workers n new)
+others_hold ds f g h workers n new others all k d within other =
+    subst (HoldsAfter ds h g) (sym (get_or-set_other workers n k new d other))
+    (others (get_or workers k d) (all k d (let long = length-set workers n new in omega (arith, long, within))))

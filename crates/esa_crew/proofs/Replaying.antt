@@ -1,5 +1,5 @@
 -- The turns of a completed list, taken one after another.
-use Rattle.std.proofs.Common.{◌≡◌, ℕ, ◌+◌, ◌<◌, ◌≤◌, true, false, Bool, List, [], ◌∷◌, ◌++◌, length, take, get_or, None, sym, ap, ◌∙◌, arith, append_assoc, ⊎_elim}
+use Rattle.std.proofs.Common.{◌≡◌, ℕ, ◌+◌, ◌<◌, ◌≤◌, true, false, Bool, List, [], ◌∷◌, ◌++◌, length, take, get_or, None, refl, sym, ap, ◌∙◌, arith, append_assoc, length-append, ⊎_elim}
 use Rattle.std.specs.Option.{option_to_list}
 use Rattle.std.proofs.lemmas.Bool.{cases_lt}
 use Rattle.std.proofs.lemmas.List.{length-take-le, take-take, take_all, take_more}
@@ -17,6 +17,17 @@ use Rattle.esa_crew.specs.Replays.{IsReplayed, IsUnbroken}
 
 contrary : {t : Bool} → t ≡ true → t ≡ false → ⊥
 contrary passes fails = cc
+
+-- lists that end with one entry more are the same before it, and have the same entry there
+pub last_is : (xs ys : List ℕ) (x y : ℕ) → xs ++ x ∷ [] ≡ ys ++ y ∷ [] → (xs ≡ ys) × (x ≡ y)
+last_is [] [] x y is = (refl, cc is)
+last_is [] (v ∷ ys) x y is = absurd (let long = ap length is in let more = length-append ys (y ∷ []) in omega (arith, long, more))
+last_is (u ∷ xs) [] x y is = absurd (let long = ap length is in let more = length-append xs (x ∷ []) in omega (arith, long, more))
+last_is (u ∷ xs) (v ∷ ys) x y is =
+    let head : u ≡ v = cc is in
+    let rest : xs ++ x ∷ [] ≡ ys ++ y ∷ [] = cc is in
+    let one = last_is xs ys x y rest in
+    (ap (λ (k : ℕ). k ∷ xs) head ∙ ap (λ (l : List ℕ). v ∷ l) one.0, one.1)
 
 module _ (p : Sizes) (d : Draw) (turns : List ℕ) (made : ℕ) where
   abbrev all_turns : List ℕ

@@ -1,9 +1,9 @@
 -- The workers of a floor, each at its post.
-use Rattle.std.specs.Prelude.{◌≡◌, ℕ, ◌<◌, List, length, slice_index_or, None}
+use Rattle.std.specs.Prelude.{◌≡◌, ◌≢◌, ℕ, ◌<◌, List, length, slice_index_or, None}
 use Rattle.esa_envelope.specs.declared.keys.Keys.{Keys}
 use Rattle.esa_params.specs.Sizes.{Sizes}
 use Rattle.esa_spec.specs.Draws.{Draw}
-use Rattle.esa_floor.specs.Keeping.{HoldsChunks, HoldsRecords}
+use Rattle.esa_floor.specs.Keeping.{HoldsAfter, HoldsChunks, HoldsRecords}
 use Rattle.esa_floor.specs.Parts.{Parts}
 use Rattle.esa_floor.specs.Workers.{IsOfFloor, WorkerStands}
 use Rattle.esa_floor.specs.Working.{IsReady, Working}
@@ -34,6 +34,11 @@ pub record KeepsRecords {V C : Type 0} (ds : ℕ → Draw) (f : Parts V) (w : Wo
 
 abbrev pub AllHold : {V C : Type 0} → (ℕ → Draw) → Parts V → List (Working C) → Type 0
 AllHold ds f workers = (k : ℕ) (w : Working _) → k < length workers → KeepsRecords ds f (slice_index_or workers k w)
+
+-- each worker but that of one number holds what it held after the turns h of the attempt
+abbrev pub OthersHoldAfter : {V C : Type 0} → (ℕ → Draw) → List ℕ → ℕ → Parts V → List (Working C) → Type 0
+OthersHoldAfter ds h number f workers =
+    (k : ℕ) (w : Working _) → k < length workers → k ≢ number → HoldsAfter ds h f (slice_index_or workers k w)
 
 -- the worker was made for a plan, with this number, keys and coins. It has begun no attempt, and has nothing to prepare
 pub record IsNewWorker {C : Type 0} (coins : C) (p : Sizes) (outer run : Keys) (place : ℕ) (w : Working C) : Type 0 where

@@ -5,13 +5,13 @@ ghost use Rattle.esa_params.specs.Sizes.{ArePlanned};
 ghost use Rattle.esa_spec.specs.Completion.{completed};
 ghost use Rattle.esa_spec.specs.Traces.{asked};
 ghost use Rattle.esa_spec.specs.Turns.{next};
-ghost use Rattle.esa_floor.specs.Keeping.{QueuesHold, QueuesHoldAfter, SlotsHold, SlotsHoldAfter, StopsAfter};
+ghost use Rattle.esa_floor.specs.Keeping.{HoldsAfter, QueuesHold, QueuesHoldAfter, SlotsHold, SlotsHoldAfter, StopsAfter};
 ghost use Rattle.esa_floor.specs.Marks.{roots_of};
 ghost use Rattle.esa_floor.specs.Standing.{Stands, attempt_begun, turns_made};
 ghost use Rattle.esa_floor.specs.Working.{Working};
 ghost use Rattle.esa_floor.specs.Written.{EachTookItsBlock};
 ghost use Rattle.esa_report.specs.declared.item.Item.{Item};
-ghost use Rattle.esa_crew.specs.Posts.{AllHold, ArePosts, KeepsRecords, IsPost};
+ghost use Rattle.esa_crew.specs.Posts.{AllHold, ArePosts, IsPost, KeepsRecords, OthersHoldAfter};
 ghost use Rattle.esa_crew.specs.Replays.{IsReplayed};
 
 use esa_device::Device;
@@ -46,6 +46,7 @@ fn step<V: Device, G: Told, C: Coins>(floor: &mut Floor<V, G>, worker: &mut Work
     ensures stops { floor.new.stop ≢ None → StopsAfter V.faults G.draws (turns_made floor.old) floor.new }
     ensures queues_before { floor.new.stop ≢ None → QueuesHold G.draws floor.old → QueuesHoldAfter G.draws (turns_made floor.old) floor.new }
     ensures slots_before { floor.new.stop ≢ None → SlotsHold G.draws floor.old → SlotsHoldAfter G.draws (turns_made floor.old) floor.new }
+    ensures others_before { (other : Working C) → floor.new.stop ≢ None → KeepsRecords G.draws floor.old other → HoldsAfter G.draws (turns_made floor.old) floor.new other }
 {
     let _ = floor.turn(worker);
     worker.prepare();
@@ -81,6 +82,7 @@ fn step_of<V: Device, G: Told, C: Coins>(
     ensures stops { floor.new.stop ≢ None → StopsAfter V.faults G.draws (turns_made floor.old) floor.new }
     ensures queues_before { floor.new.stop ≢ None → QueuesHold G.draws floor.old → QueuesHoldAfter G.draws (turns_made floor.old) floor.new }
     ensures slots_before { floor.new.stop ≢ None → SlotsHold G.draws floor.old → SlotsHoldAfter G.draws (turns_made floor.old) floor.new }
+    ensures others_before { floor.new.stop ≢ None → AllHold G.draws floor.old workers.old → OthersHoldAfter G.draws (turns_made floor.old) number floor.new workers.new }
 {
     let worker = &mut workers[number as usize];
     step(floor, worker);
@@ -150,6 +152,8 @@ pub fn replay<V: Device, G: Told, C: Coins>(
     ensures stops { floor.new.stop ≢ None → (before : List ℕ) × StopsAfter V.faults G.draws before floor.new
         × (AllHold G.draws floor.old workers.old → QueuesHold G.draws floor.old → SlotsHold G.draws floor.old
         → QueuesHoldAfter G.draws before floor.new × SlotsHoldAfter G.draws before floor.new) }
+    ensures others_hold { floor.new.stop ≢ None → (before : List ℕ) (failed : ℕ) → turns_made floor.new ≡ before ++ failed ∷ []
+        → AllHold G.draws floor.old workers.old → QueuesHold G.draws floor.old → OthersHoldAfter G.draws before failed floor.new workers.new }
 {
     let plan = floor.plan();
     for made in 0..most_turns(&plan, turns) {

@@ -17,7 +17,7 @@ use Rattle.esa_spec.specs.Turns.{events, held, is_write_at, next, next_phase, or
 use Rattle.esa_spec.specs.declared.event.Event.{Event}
 use Rattle.esa_spec.specs.declared.event.Event.TheVariants.{Claim, Read, Exchange, Write, Done, Idle}
 use Rattle.esa_stash.specs.Stash.{Held, queue_at}
-use Rattle.esa_floor.specs.Keeping.{AreChunksStored, HasInput, QueuesHold, SlotsHold, StopsAfter, chunk_block}
+use Rattle.esa_floor.specs.Keeping.{AreChunks, AreChunksStored, AreRecords, HasInput, HoldsAfter, HoldsChunks, HoldsRecords, QueuesHold, SlotsHold, StopsAfter, chunk_block}
 use Rattle.esa_floor.specs.Logging.{noted_of, read_of, write_of}
 use Rattle.esa_floor.specs.Parts.{Parts, with_entry}
 use Rattle.esa_floor.specs.Standing.{StopsAt, attempt_begun, turns_made}
@@ -132,3 +132,31 @@ module _ {V : Type 0} (f new : Parts V) (n room : ℕ) where
           (sym (ap (λ (x : Parts V). x.run) kept))
           (subst (λ (k : ℕ). AreChunksStored f.plan f.run k (ds k) record_of (turns_made f) new.recorder.log) (sym attempt_is)
           (subst (AreChunksStored f.plan f.run now (ds now) record_of (turns_made f)) (sym log_is) more)))
+
+      still_chunks : (record_of : ℕ → Item) (h : List ℕ) (j : ℕ) (held : List Item) → AreChunks f.plan (ds now) record_of (order f.plan.b h) j held
+          → AreChunks new.plan (ds (attempt_begun after)) record_of (order new.plan.b h) j held
+      still_chunks record_of h j held are =
+          subst (λ (q : Sizes). AreChunks q (ds (attempt_begun after)) record_of (order q.b h) j held) (sym same)
+          (subst (λ (k : ℕ). AreChunks f.plan (ds k) record_of (order f.plan.b h) j held) (sym attempt_is) are)
+
+      -- what a worker held that didn't have the turn
+      pub holds_after : {D : Type 0} (other : Working D) → f.attempt ≢ None → f.stop ≡ None → HoldsRecords f other → HoldsChunks ds f other
+          → HoldsAfter ds (turns_made f) after other
+      holds_after other some free records chunks = record {
+        records = λ record_of input second inside.
+            subst (λ (x : Parts V). AreRecords x.plan x.outer record_of other.bucket other.buffers.text) (sym kept)
+            (records record_of (was record_of input) some free second (subst (λ (q : Sizes). other.bucket < q.b) same inside));
+        chunks = λ record_of input third inside.
+            still_chunks record_of (turns_made f) other.bucket other.buffers.chunks
+            (chunks record_of (was record_of input) some free third (subst (λ (q : Sizes). other.bucket < q.b) same inside));
+      }
+
+      pub holds_still : {D : Type 0} (h : List ℕ) (other : Working D) → HoldsAfter ds h f other → HoldsAfter ds h after other
+      holds_still h other holds = record {
+        records = λ record_of input second inside.
+            subst (λ (x : Parts V). AreRecords x.plan x.outer record_of other.bucket other.buffers.text) (sym kept)
+            (holds.records record_of (was record_of input) second (subst (λ (q : Sizes). other.bucket < q.b) same inside));
+        chunks = λ record_of input third inside.
+            still_chunks record_of h other.bucket other.buffers.chunks
+            (holds.chunks record_of (was record_of input) third (subst (λ (q : Sizes). other.bucket < q.b) same inside));
+      }

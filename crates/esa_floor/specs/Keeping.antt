@@ -138,3 +138,11 @@ pub record StopsAfter {V : Type 0} (faults : V → ℕ) (ds : ℕ → Draw) (h :
   pub failed : ℕ
   pub turns : turns_made f ≡ h ++ failed ∷ []
   pub stops : StopsAt faults (ds (attempt_begun f)) (attempt_begun f) f (length h) f.stop
+
+-- a worker holds what it held after the turns h of the attempt: envelopes of the records of its bucket, from its read to
+-- its exchange, and from then to the end of its round the chunks of its bucket
+pub record HoldsAfter {V C : Type 0} (ds : ℕ → Draw) (h : List ℕ) (f : Parts V) (w : Working C) : Type 0 where
+  pub records : (record_of : ℕ → Item) → HasInput f record_of → w.phase ≡ 2 → w.bucket < f.plan.b
+      → AreRecords f.plan f.outer record_of w.bucket w.buffers.text
+  pub chunks : (record_of : ℕ → Item) → HasInput f record_of → 3 ≤ w.phase → w.bucket < f.plan.b
+      → AreChunks f.plan (ds (attempt_begun f)) record_of (order f.plan.b h) w.bucket w.buffers.chunks

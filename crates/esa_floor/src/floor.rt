@@ -1,6 +1,6 @@
 //! A floor: what the turns of a run work on.
 
-ghost use Rattle.std.specs.Prelude.{◌≡◌, ◌≢◌, ℕ, ◌+◌, ◌-◌, ◌*◌, ◌<◌, ◌≤◌, ◌↔◌, ◌++◌, ◌∷◌, [], min, Some, None, IsTrue, IfOk, IfErr, IsOk, OnOk, OnErr, length, option_to_list};
+ghost use Rattle.std.specs.Prelude.{◌≡◌, ◌≢◌, ℕ, ◌+◌, ◌-◌, ◌*◌, ◌<◌, ◌≤◌, ◌↔◌, ◌++◌, ◌∷◌, List, [], min, Some, None, IsTrue, IfOk, IfErr, IsOk, OnOk, OnErr, length, option_to_list};
 ghost use Rattle.esa_params.specs.Sizes.{size};
 ghost use Rattle.esa_params.specs.Slots.{access_of, at, greatest_trace};
 ghost use Rattle.esa_report.specs.declared.item.Item.{Item};
@@ -9,7 +9,7 @@ ghost use Rattle.esa_spec.specs.Traces.{asked, chunk_slot};
 ghost use Rattle.esa_spec.specs.Turns.{held, next, next_phase};
 ghost use Rattle.esa_stash.specs.Stash.{chunks as chunks_of, empty_stash, padded, queue_at, without};
 ghost use Rattle.esa_floor.specs.Acts.{WorksOn, answer_in, answer_of, counted_after};
-ghost use Rattle.esa_floor.specs.Keeping.{Deals, HoldsChunks, HoldsRecords, IsDealt, Leaves, OpensTo, QueuesHold, QueuesHoldAfter, SlotsHold, SlotsHoldAfter, StopsAfter};
+ghost use Rattle.esa_floor.specs.Keeping.{Deals, HoldsAfter, HoldsChunks, HoldsRecords, IsDealt, Leaves, OpensTo, QueuesHold, QueuesHoldAfter, SlotsHold, SlotsHoldAfter, StopsAfter};
 ghost use Rattle.esa_floor.specs.Logging.{noted_of, read_of, write_of};
 ghost use Rattle.esa_floor.specs.Marks.{mark_of, roots_of};
 ghost use Rattle.esa_floor.specs.Workers.{IsInRound, IsOfFloor, WorkerStands, moved};
@@ -622,6 +622,11 @@ impl<V: Device, G: Told> Floor<V, G> {
             → QueuesHoldAfter G.draws (turns_made self.old) self.new }
         ensures slots_before { self.old.attempt ≢ None → self.old.stop ≡ None → self.new.stop ≢ None → SlotsHold G.draws self.old
             → SlotsHoldAfter G.draws (turns_made self.old) self.new }
+
+        // Then the other workers hold what they held, and go on to hold it.
+        ensures others_before { (other : Working C) → self.old.attempt ≢ None → self.old.stop ≡ None → self.new.stop ≢ None → HoldsRecords self.old other
+            → HoldsChunks G.draws self.old other → HoldsAfter G.draws (turns_made self.old) self.new other }
+        ensures others_still { (h : List ℕ) (other : Working C) → HoldsAfter G.draws h self.old other → HoldsAfter G.draws h self.new other }
     {
         let turn = self.take(worker);
         self.history.push_reserved(worker.number());

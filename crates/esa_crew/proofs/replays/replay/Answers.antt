@@ -12,7 +12,8 @@ use Rattle.esa_floor.specs.Parts.{Parts}
 use Rattle.esa_floor.specs.Standing.{attempt_begun, turns_made}
 use Rattle.esa_floor.specs.declared.floor.Roots.{Roots}
 use Rattle.esa_crew.proofs.Ending.{finishes, good, not_finished, not_stopped}
-use Rattle.esa_crew.proofs.Replaying.{at_last, more, replayed, traced_more, unfinished_more}
+use Rattle.esa_crew.specs.Posts.{OthersHoldAfter}
+use Rattle.esa_crew.proofs.Replaying.{at_last, last_is, more, replayed, traced_more, unfinished_more}
 use Rattle.esa_crew.proofs.replays.replay.Goals as goal
 use Rattle.esa_crew.proofs.replays.replay.Goals.{At-loop-made}
 use Rattle.esa_crew.proofs.replays.replay.Given.{Over}
@@ -112,6 +113,11 @@ loop-made-preserved g c =
         done.stops halted,
         (λ all queues slots. (done.queues_before halted (inv.queues all queues), done.slots_before halted (inv.slots all queues slots))),
       );
+      others_hold = λ ran halted before failed made_is all queues.
+          let one = last_is (turns_made now) before w failed (sym done.turns ∙ made_is) in
+          subst (λ (k : ℕ). OthersHoldAfter g.G.Told.draws before k c.step_of.new.floor c.step_of.new.workers) one.1
+          (subst (λ (l : List ℕ). OthersHoldAfter g.G.Told.draws l w c.step_of.new.floor c.step_of.new.workers) one.0
+          (done.others_before halted (inv.hold all queues)));
       origin = done.origin ∙ inv.origin;
       attempt = done.attempt ∙ inv.attempt;
       begun = done.begun ∙ inv.begun;
@@ -162,6 +168,16 @@ returns-then-is_over-clause-took g c = c.loop-made.invariant.took
 
 pub returns-clause-took : goal.returns-clause-took
 returns-clause-took g c = c.loop-made.invariant.took
+
+pub returns-then-is_over-clause-others_hold : goal.returns-then-is_over-clause-others_hold
+returns-then-is_over-clause-others_hold g c =
+    let f = c.args.floor.now in
+    c.loop-made.invariant.others_hold (not_stopped g.V.Device.faults g.G.Told.plan g.G.Told.draws f c.requires.stands c.requires.begun c.requires.fresh f.stop refl)
+
+pub returns-clause-others_hold : goal.returns-clause-others_hold
+returns-clause-others_hold g c =
+    let f = c.args.floor.now in
+    c.loop-made.invariant.others_hold (not_stopped g.V.Device.faults g.G.Told.plan g.G.Told.draws f c.requires.stands c.requires.begun c.requires.fresh f.stop refl)
 
 pub returns-then-is_over-clause-stops : goal.returns-then-is_over-clause-stops
 returns-then-is_over-clause-stops g c =

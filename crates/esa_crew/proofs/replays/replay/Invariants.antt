@@ -1,5 +1,5 @@
 -- So many turns of the completed list were taken, and no fewer finish the attempt.
-use Rattle.std.proofs.Common.{◌≡◌, ◌≢◌, ℕ, ◌<◌, ◌++◌, false, List, length, take, None}
+use Rattle.std.proofs.Common.{◌≡◌, ◌≢◌, ℕ, ◌<◌, ◌++◌, ◌∷◌, false, List, [], length, take, None}
 use Rattle.esa_spec.specs.Completion.{completed}
 use Rattle.esa_spec.specs.Traces.{spread}
 use Rattle.esa_spec.specs.Verdicts.{is_finished}
@@ -8,7 +8,7 @@ use Rattle.esa_floor.specs.Marks.{roots_of}
 use Rattle.esa_floor.specs.Standing.{Stands, attempt_begun, turns_made}
 use Rattle.esa_floor.specs.Written.{EachTookItsBlock}
 use Rattle.esa_report.specs.declared.item.Item.{Item}
-use Rattle.esa_crew.specs.Posts.{AllHold, ArePosts}
+use Rattle.esa_crew.specs.Posts.{AllHold, ArePosts, OthersHoldAfter}
 use Rattle.esa_crew.proofs.replays.replay.Given as goal
 
 abbrev pub invariant-loop-made : goal.invariant-loop-made
@@ -29,6 +29,9 @@ invariant-loop-made g l =
       stops : l.initial.floor.stop ≡ None → l.floor.stop ≢ None → (before : List ℕ) × StopsAfter g.V.Device.faults g.G.Told.draws before l.floor
           × (AllHold g.G.Told.draws l.initial.floor l.initial.workers → QueuesHold g.G.Told.draws l.initial.floor → SlotsHold g.G.Told.draws l.initial.floor
           → QueuesHoldAfter g.G.Told.draws before l.floor × SlotsHoldAfter g.G.Told.draws before l.floor);
+      others_hold : l.initial.floor.stop ≡ None → l.floor.stop ≢ None → (before : List ℕ) (failed : ℕ) → turns_made l.floor ≡ before ++ failed ∷ []
+          → AllHold g.G.Told.draws l.initial.floor l.initial.workers → QueuesHold g.G.Told.draws l.initial.floor
+          → OthersHoldAfter g.G.Told.draws before failed l.floor l.workers;
       origin : roots_of l.floor ≡ roots_of l.initial.floor;
       attempt : l.floor.attempt ≡ l.initial.floor.attempt;
       begun : attempt_begun l.floor ≡ a;

@@ -69,3 +69,7 @@ returns-clause-queues_before g c = c.turn.ensures.queues_before c.requires.begun
 
 pub returns-clause-slots_before : goal.returns-clause-slots_before
 returns-clause-slots_before g c = c.turn.ensures.slots_before c.requires.begun c.requires.runs
+
+pub returns-clause-others_before : goal.returns-clause-others_before
+returns-clause-others_before g c = λ other stopped holds.
+    c.turn.ensures.others_before other c.requires.begun c.requires.runs stopped holds.records holds.chunks

@@ -5,7 +5,7 @@ use Rattle.esa_spec.specs.Traces.{asked}
 use Rattle.esa_spec.specs.Turns.{next}
 use Rattle.esa_floor.specs.Standing.{attempt_begun, turns_made}
 use Rattle.esa_crew.specs.Posts.{IsPost}
-use Rattle.esa_crew.proofs.Posting.{all_hold, posts_on}
+use Rattle.esa_crew.proofs.Posting.{all_hold, others_hold, posts_on}
 use Rattle.esa_crew.proofs.replays.step_of.Goals as goal
 
 pub returns-clause-access : goal.returns-clause-access
@@ -41,3 +41,8 @@ returns-clause-slots g c = λ all slots.
 pub returns-clause-took : goal.returns-clause-took
 returns-clause-took g c = λ record_of all took.
     c.step.ensures.took record_of (all c.args.number c.index-workers-number.result c.requires.number) took
+
+pub returns-clause-others_before : goal.returns-clause-others_before
+returns-clause-others_before g c = λ stopped all.
+    others_hold g.G.Told.draws c.args.floor.now c.step.new.floor (turns_made c.args.floor.now) c.args.workers.now c.args.number c.step.new.worker
+    (λ other. c.step.ensures.others_before other stopped) all

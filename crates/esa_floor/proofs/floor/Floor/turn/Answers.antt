@@ -1,7 +1,7 @@
 -- The mark does not fall, and other workers stand as before.
 use Rattle.std.proofs.Common.{◌≡◌, ◌≢◌, ℕ, ◌∷◌, ◌++◌, List, [], None, refl, sym, ap, ◌∙◌, subst, arith}
 use Rattle.esa_spec.specs.Turns.{next}
-use Rattle.esa_floor.specs.Keeping.{HoldsChunks, HoldsRecords, QueuesHold, QueuesHoldAfter, SlotsHold, SlotsHoldAfter, StopsAfter}
+use Rattle.esa_floor.specs.Keeping.{HoldsAfter, HoldsChunks, HoldsRecords, QueuesHold, QueuesHoldAfter, SlotsHold, SlotsHoldAfter, StopsAfter}
 use Rattle.esa_floor.specs.Parts.{Parts}
 use Rattle.esa_floor.specs.Standing.{attempt_begun, turns_made}
 use Rattle.esa_floor.specs.Working.{Working}
@@ -9,7 +9,7 @@ use Rattle.esa_floor.specs.Written.{EachTookItsBlock}
 use Rattle.esa_floor.proofs.Chunking.{chunks_on, others_on as others_hold_on}
 use Rattle.esa_floor.proofs.Queueing.{held_on, queues_on}
 use Rattle.esa_floor.proofs.Resting.{begun_on, mark_grows, others_on}
-use Rattle.esa_floor.proofs.Stopping.{queues_after, slots_after, stops_on}
+use Rattle.esa_floor.proofs.Stopping.{holds_after, holds_still, queues_after, slots_after, stops_on}
 use Rattle.esa_floor.proofs.Storing.{slots_on}
 use Rattle.esa_floor.proofs.Writing.{took_turn}
 use Rattle.esa_floor.proofs.floor.Floor.turn.Goals as goal
@@ -238,3 +238,38 @@ returns-clause-slots_before g c = λ some runs stopped slots.
     subst (λ (x : Parts _). SlotsHoldAfter g.G.Told.draws (turns_made f) x) is
     (λ record_of. slots_after f new w.number room w g.V.Device.faults g.G.Told.draws worker turn.kept c.requires.of.run turn.idle turn.later turn.log
     some runs slots record_of)
+
+pub returns-clause-others_before : goal.returns-clause-others_before
+returns-clause-others_before g c = λ other some runs stopped records chunks.
+    let f = c.args.self.now in
+    let w = c.args.worker.now in
+    let few = c.requires.of.number in
+    let worker : w.number ≢ f.plan.workers = λ same. absurd (omega (arith, same, few)) in
+    let turn = c.take-turn.ensures in
+    let new = c.take-turn.new.self in
+    let room = c.push_reserved.new.self.cap in
+    let longer : c.push_reserved.new.self.items ≡ f.history ++ w.number ∷ [] =
+    c.push_reserved.ensures.items ∙ ap (λ (xs : List ℕ). xs ++ c.number.result ∷ []) (ap (λ (x : Parts _). x.history) (c.self.view_is ∙ turn.kept))
+    ∙ ap (λ (k : ℕ). f.history ++ k ∷ []) (c.number.ensures ∙ ap (λ (x : Working _). x.number) turn.moved) in
+    let is = ap (λ (xs : List ℕ). record new { history = xs; room = room }) (sym longer)
+    ∙ ap (λ (x : Parts _). record x { history = c.push_reserved.new.self.items; room = room }) (sym c.self.view_is) in
+    subst (λ (x : Parts _). HoldsAfter g.G.Told.draws (turns_made f) x other) is
+    (holds_after f new w.number room w g.V.Device.faults g.G.Told.draws worker turn.kept c.requires.of.run turn.idle turn.later turn.log
+    other some runs records chunks)
+
+pub returns-clause-others_still : goal.returns-clause-others_still
+returns-clause-others_still g c = λ h other holds.
+    let f = c.args.self.now in
+    let w = c.args.worker.now in
+    let few = c.requires.of.number in
+    let worker : w.number ≢ f.plan.workers = λ same. absurd (omega (arith, same, few)) in
+    let turn = c.take-turn.ensures in
+    let new = c.take-turn.new.self in
+    let room = c.push_reserved.new.self.cap in
+    let longer : c.push_reserved.new.self.items ≡ f.history ++ w.number ∷ [] =
+    c.push_reserved.ensures.items ∙ ap (λ (xs : List ℕ). xs ++ c.number.result ∷ []) (ap (λ (x : Parts _). x.history) (c.self.view_is ∙ turn.kept))
+    ∙ ap (λ (k : ℕ). f.history ++ k ∷ []) (c.number.ensures ∙ ap (λ (x : Working _). x.number) turn.moved) in
+    let is = ap (λ (xs : List ℕ). record new { history = xs; room = room }) (sym longer)
+    ∙ ap (λ (x : Parts _). record x { history = c.push_reserved.new.self.items; room = room }) (sym c.self.view_is) in
+    subst (λ (x : Parts _). HoldsAfter g.G.Told.draws h x other) is
+    (holds_still f new w.number room w g.V.Device.faults g.G.Told.draws worker turn.kept c.requires.of.run turn.idle turn.later turn.log h other holds)
