@@ -4,9 +4,9 @@ ghost use Rattle.std.specs.Prelude.{◌≡◌};
 ghost use Rattle.esa_params.specs.Form.{envelope_length};
 ghost use Rattle.esa_shuffle.specs.Loading.{EndsLoad, IsNewFloor};
 
+use esa_crew::loaded_floors_begin;
 use esa_device::Device;
 use esa_floor::{Floor, Outcome, Told};
-use esa_crew::loaded_floors_begin;
 use esa_load::{LoadFault, Loader};
 use esa_outside::Records;
 

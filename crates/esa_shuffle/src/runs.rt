@@ -85,14 +85,7 @@ fn make_attempts<V: Device, G: Told, C: Coins>(
     ensures origin { roots_of floor.new ≡ roots_of floor.old }
 {
     for attempt in 0..floor.plan().attempts() {
-        match make_attempt(
-            floor,
-            workers,
-            press,
-            coins,
-            attempt,
-            turns.list(attempt),
-        ) {
+        match make_attempt(floor, workers, press, coins, attempt, turns.list(attempt)) {
             Ok(verdict) => {
                 if is_good(verdict) {
                     return Outcome::Shuffled { attempt };

@@ -17,8 +17,7 @@ returns-in-Ok-clause-ends g c =
     let after : Source = record { faults = g.R.Records.faults c.load.new.batch; heard = g.R.Records.heard c.load.new.batch } in
     let given = c.in-Ok.ensures.end.0 in
     let end = moved faults g.G.Told.plan g.G.Told.draws f c.requires.new r told part given before after c.args.loader.now.plan c.args.loader.now.run c.recorder.result.now (Ok c.in-Ok.field-0) c.requires.plan c.requires.run
-    c.recorder.ensures.value c.in-Ok.ensures.end.1 in
-    (
+    c.recorder.ensures.value c.in-Ok.ensures.end.1 in (
       c.loaded_floors_begin.ensures g.G.Told.plan g.G.Told.draws (record f { recorder = r })
           (is_loaded faults g.G.Told.plan g.G.Told.draws f c.requires.new r told part given before after end.0 end.1),
       end.2,
