@@ -1,0 +1,6 @@
+pub mod Ending
+pub mod Loaded
+pub mod Running
+pub mod Stopped
+pub mod Storing
+pub mod Taking

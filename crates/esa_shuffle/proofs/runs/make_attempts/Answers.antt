@@ -1,0 +1,99 @@
+-- An attempt ends the run, or leads on.
+use Rattle.std.proofs.Common.{◌≡◌, ℕ, ◌+◌, ◌<◌, true, false, List, [], ◌∷◌, ◌++◌, All, length, map, Result, Ok, Err, sym, ap, ap₂, ◌∙◌, subst, arith}
+use Rattle.std.proofs.lemmas.List.{length-map}
+use Rattle.std.proofs.lemmas.List.FromFn.{length-range_with_len}
+use Rattle.esa_params.specs.Sizes.{Sizes, below}
+use Rattle.esa_spec.specs.Completion.{completed, full}
+use Rattle.esa_spec.specs.Draws.{Draw}
+use Rattle.esa_spec.specs.declared.event.Verdict.{Verdict}
+use Rattle.esa_vault.specs.declared.fault.VaultFault.{VaultFault}
+use Rattle.esa_ending.specs.Seen.{verdict_in}
+use Rattle.esa_floor.specs.declared.floor.Roots.{Roots}
+use Rattle.esa_floor.specs.declared.turn.Outcome.{Outcome}
+use Rattle.esa_model.specs.Forecast.{handed_in, made, made_in}
+use Rattle.esa_shuffle.specs.Attempts.{AddsAttempt}
+use Rattle.esa_shuffle.specs.Runs.{MayEnd, entries_before}
+use Rattle.esa_shuffle.proofs.Running.{IsBefore, ends_all, ends_cut, ends_good, first_before, leads_on, room_for}
+use Rattle.esa_shuffle.proofs.Taking.{All-full, workers_at}
+use Rattle.esa_shuffle.proofs.runs.make_attempts.Goals as goal
+
+-- the turns that an attempt adds are those of its list, completed
+added_in : (p q : Sizes) (ds : ℕ → Draw) (turns : List (List ℕ)) (a : ℕ) (list old new : List ℕ) (result : Result Verdict VaultFault) → q ≡ p → list ≡ handed_in turns a
+    → AddsAttempt q (full q (ds a) list) old new result → AddsAttempt p (made_in p ds turns a) old new result
+added_in p q ds turns a list old new result same is added =
+    subst (λ (l : List ℕ). AddsAttempt p (full p (ds a) l) old new result) is
+    (subst (λ (x : Sizes). AddsAttempt x (full x (ds a) list) old new result) same added)
+
+pub make_attempt-requires-clause-room : goal.make_attempt-requires-clause-room
+make_attempt-requires-clause-room g c =
+    let f = c.loop-attempt.floor in
+    let inv = c.loop-attempt.invariant in
+    let a = c.loop-attempt.attempt in
+    let turns = c.args.turns.now in
+    let inside : a < g.G.Told.plan.attempts = omega (arith, c.loop-attempt-test.true, c.attempts-attempt-end.ensures.value, ap (λ (q : Sizes). q.attempts) (c.plan.ensures ∙ c.requires.next.of.plan)) in
+    subst (λ (n : ℕ). length f.history + 1 + n < f.room)
+    (sym (ap₂ (λ (q : Sizes) (l : List ℕ). length (completed q l)) inv.before.plan c.list.ensures.value))
+    (room_for g.V.Device.faults g.G.Told.plan g.G.Told.draws turns a f c.loop-attempt.failures f.room inv.before inside inv.room)
+
+pub returns-then-is_good-clause-ends : goal.returns-then-is_good-clause-ends
+returns-then-is_good-clause-ends g c =
+    let p = g.G.Told.plan in
+    let ds = g.G.Told.draws in
+    let f = c.loop-attempt.floor in
+    let inv = c.loop-attempt.invariant in
+    let a = c.loop-attempt.attempt in
+    let turns = c.args.turns.now in
+    let inside : a < p.attempts = omega (arith, c.loop-attempt-test.true, c.attempts-attempt-end.ensures.value, ap (λ (q : Sizes). q.attempts) (c.plan.ensures ∙ c.requires.next.of.plan)) in
+    ends_good g.V.Device.faults p ds turns a f c.make_attempt.new.floor c.loop-attempt.failures inv.before inside (ap (λ (r : Roots). r.plan) c.make_attempt.ensures.origin ∙ inv.before.plan)
+    (All-full p (ds a) (handed_in turns a) (workers_at p.workers turns a c.requires.numbers)) c.in-Ok.verdict
+    (added_in p f.plan ds turns a c.list.result.now f.history c.make_attempt.new.floor.history (Ok c.in-Ok.verdict) inv.before.plan c.list.ensures.value c.in-Ok.ensures.history)
+    c.in-Ok.ensures.ends (sym c.is_good.ensures ∙ c.if-is_good.true)
+
+pub add-requires : goal.add-requires
+add-requires g c =
+    let p = g.G.Told.plan in
+    let inv = c.loop-attempt.invariant in
+    let a = c.loop-attempt.attempt in
+    let inside : a < p.attempts = omega (arith, c.loop-attempt-test.true, c.attempts-attempt-end.ensures.value, ap (λ (q : Sizes). q.attempts) (c.plan.ensures ∙ c.requires.next.of.plan)) in
+    let long = ap length inv.before.failed ∙ length-map (below a) (verdict_in p g.G.Told.draws (made p g.G.Told.draws c.args.turns.now)) ∙ length-range_with_len 0 a in
+    let most = c.requires.planned.parameters.attempts_greatest in
+    omega (arith, long, inside, most)
+
+pub returns-in-Err-clause-ends : goal.returns-in-Err-clause-ends
+returns-in-Err-clause-ends g c =
+    let p = g.G.Told.plan in
+    let ds = g.G.Told.draws in
+    let f = c.loop-attempt.floor in
+    let inv = c.loop-attempt.invariant in
+    let a = c.loop-attempt.attempt in
+    let turns = c.args.turns.now in
+    let inside : a < p.attempts = omega (arith, c.loop-attempt-test.true, c.attempts-attempt-end.ensures.value, ap (λ (q : Sizes). q.attempts) (c.plan.ensures ∙ c.requires.next.of.plan)) in
+    subst (λ (o : Outcome). (count : ℕ) → MayEnd g.V.Device.faults p ds (made p ds turns) count count c.make_attempt.new.floor c.loop-attempt.failures o) (sym c.outcome_by.ensures)
+    (ends_cut g.V.Device.faults p ds turns a f c.make_attempt.new.floor c.loop-attempt.failures inv.before inside (ap (λ (r : Roots). r.plan) c.make_attempt.ensures.origin ∙ inv.before.plan)
+    (All-full p (ds a) (handed_in turns a) (workers_at p.workers turns a c.requires.numbers)) c.in-Err.fault
+    (added_in p f.plan ds turns a c.list.result.now f.history c.make_attempt.new.floor.history (Err c.in-Err.fault) inv.before.plan c.list.ensures.value c.in-Err.ensures.history)
+    c.in-Err.ensures.ends)
+
+pub loop-attempt-preserved : goal.loop-attempt-preserved
+loop-attempt-preserved g c =
+    let p = g.G.Told.plan in
+    let ds = g.G.Told.draws in
+    let f = c.loop-attempt.floor in
+    let inv = c.loop-attempt.invariant in
+    let a = c.loop-attempt.attempt in
+    let turns = c.args.turns.now in
+    let done = c.make_attempt.ensures in
+    let inside : a < p.attempts = omega (arith, c.loop-attempt-test.true, c.attempts-attempt-end.ensures.value, ap (λ (q : Sizes). q.attempts) (c.plan.ensures ∙ c.requires.next.of.plan)) in
+    record {
+      before = subst (IsBefore g.V.Device.faults p ds turns (a + 1) c.make_attempt.new.floor) (sym c.add.ensures)
+          (leads_on g.V.Device.faults p ds turns a f c.make_attempt.new.floor c.loop-attempt.failures inv.before inside (ap (λ (r : Roots). r.plan) done.origin ∙ inv.before.plan)
+          (All-full p (ds a) (handed_in turns a) (workers_at p.workers turns a c.requires.numbers)) c.in-Ok.verdict
+          (added_in p f.plan ds turns a c.list.result.now f.history c.make_attempt.new.floor.history (Ok c.in-Ok.verdict) inv.before.plan c.list.ensures.value c.in-Ok.ensures.history)
+          c.in-Ok.ensures.ends done.outcome (sym c.is_good.ensures ∙ c.if-is_good.false));
+      room = subst (λ (n : ℕ). entries_before p turns p.attempts < n) (sym (ap (λ (r : Roots). r.room) done.origin)) inv.room;
+      members = done.members;
+      each = done.each ∙ inv.each;
+      plan = done.plan ∙ inv.plan ∙ sym (ap (λ (r : Roots). r.plan) done.origin);
+      run = done.run ∙ inv.run ∙ sym (ap (λ (r : Roots). r.run) done.origin);
+      origin = done.origin ∙ inv.origin;
+    }

@@ -1,0 +1,18 @@
+-- The attempts before this one have failed, and the crew stands ready.
+use Rattle.std.proofs.Common.{◌≡◌, ◌<◌, length}
+use Rattle.esa_crew.specs.Posts.{AreMembers}
+use Rattle.esa_floor.specs.Marks.{roots_of}
+use Rattle.esa_shuffle.specs.Runs.{entries_before}
+use Rattle.esa_shuffle.proofs.Running.{IsBefore}
+use Rattle.esa_shuffle.proofs.runs.make_attempts.Given as goal
+
+abbrev pub invariant-loop-attempt : goal.invariant-loop-attempt
+invariant-loop-attempt g l = record {
+  before : IsBefore g.V.Device.faults g.G.Told.plan g.G.Told.draws l.turns l.attempt l.floor l.failures;
+  room : entries_before g.G.Told.plan l.turns g.G.Told.plan.attempts < l.floor.room;
+  members : AreMembers g.G.Told.draws g.C.Coins.target_list l.floor l.workers;
+  each : length l.workers ≡ g.G.Told.plan.workers;
+  plan : l.press.plan ≡ l.floor.plan;
+  run : l.press.run ≡ l.floor.run;
+  origin : roots_of l.floor ≡ roots_of l.initial.floor;
+}

@@ -1,0 +1,19 @@
+-- The floor was given up as it had ended.
+use Rattle.std.proofs.Common.{ap, ◌∙◌}
+use Rattle.esa_floor.specs.Parts.{Parts}
+use Rattle.esa_floor.specs.declared.floor.Roots.{Roots}
+use Rattle.esa_model.specs.Forecast.{made}
+use Rattle.esa_shuffle.proofs.Ending.{ends_seen}
+use Rattle.esa_shuffle.proofs.runs.run_on.Goals as goal
+
+pub returns-clause-ends : goal.returns-clause-ends
+returns-clause-ends g c =
+    let p = g.G.Told.plan in
+    let ds = g.G.Told.draws in
+    let done = c.load_and_run-outcome in
+    ends_seen g.V.Device.faults ds (made p ds c.args.turns.now) (g.R.Records.faults c.args.batch.now) (g.R.Records.faults done.new.batch) done.new.floor done.new.failures p done.result
+    c.args.floor.faults c.args.floor.run c.give-recorder.result.recorder c.give-recorder.result.history
+    (ap (λ (r : Roots). r.faults) done.ensures.origin) (ap (λ (r : Roots). r.run) done.ensures.origin)
+    (ap (λ x. x.recorder) c.give-recorder.ensures ∙ ap (λ (x : Parts _). x.recorder) c.end.ensures.ended)
+    (ap (λ x. x.history) c.give-recorder.ensures ∙ ap (λ (x : Parts _). x.history) c.end.ensures.ended)
+    done.ensures.ends

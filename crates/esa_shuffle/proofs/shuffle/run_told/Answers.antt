@@ -1,0 +1,47 @@
+-- The floor and the tools that were made are those of the plan.
+use Rattle.std.proofs.Common.{◌≡◌, ℕ, ◌<◌, List, length, get_or, sym, ap, ◌∙◌, subst, arith}
+use Rattle.esa_envelope.specs.declared.keys.Keys.{Keys}
+use Rattle.esa_params.specs.Sizes.{ArePlanned, Sizes}
+use Rattle.esa_floor.specs.Parts.{Parts}
+use Rattle.esa_model.specs.Forecast.{made}
+use Rattle.esa_model.specs.Turns.{AreWorkers}
+use Rattle.esa_shuffle.specs.Runs.{AreFresh, EndsRun, opens_last, seen_of}
+use Rattle.esa_shuffle.proofs.Ending.{fresh}
+use Rattle.esa_shuffle.proofs.Taking.{is_member}
+use Rattle.esa_shuffle.proofs.shuffle.run_told.Goals as goal
+
+pub run_on-requires-clause-members : goal.run_on-requires-clause-members
+run_on-requires-clause-members g c = λ k w inside.
+    let parts = c.in-Ok-make-2.ensures.parts in
+    let each = c.in-Ok.ensures.each in
+    let within : k < c.args.plan.workers = omega (arith, inside, each) in
+    is_member g.G.Told.draws g.C.Coins.target_list g.C.Coins.order_list c.in-Ok-make-2.floor c.args.coins.now c.args.plan c.args.outer c.args.run k (get_or c.in-Ok.tools.workers.items k w)
+    (ap (λ (x : Parts _). x.plan) parts) (ap (λ (x : Parts _). x.outer) parts) (ap (λ (x : Parts _). x.run) parts) c.requires.draws within (c.in-Ok.ensures.made k w within)
+
+pub run_on-requires-clause-numbers : goal.run_on-requires-clause-numbers
+run_on-requires-clause-numbers g c = subst (λ (q : Sizes). AreWorkers q.workers c.args.turns.now) (sym c.requires.plan) c.requires.numbers
+
+pub returns-in-Ok-make-2-clause-ends : goal.returns-in-Ok-make-2-clause-ends
+returns-in-Ok-make-2-clause-ends g c =
+    let parts = c.in-Ok-make-2.ensures.parts in
+    let ran = c.run_on.result in
+    let ds = g.G.Told.draws in
+    let before = g.R.Records.faults c.args.batch.now in
+    let now = g.R.Records.faults c.run_on.new.batch in
+    let turns = c.args.turns.now in
+    subst (λ (q : Sizes). EndsRun q ds (made q ds turns) (seen_of g.V.Device.faults (g.V.Device.faults c.args.recorder.device) before ran.recorder ran.history now) (opens_last q c.args.run ran.recorder.last) ran.failures ran.outcome) c.requires.plan
+    (subst (λ (k : Keys). EndsRun g.G.Told.plan ds (made g.G.Told.plan ds turns) (seen_of g.V.Device.faults (g.V.Device.faults c.args.recorder.device) before ran.recorder ran.history now) (opens_last g.G.Told.plan k ran.recorder.last) ran.failures ran.outcome)
+    (ap (λ (x : Parts _). x.run) parts)
+    (subst (λ (n : ℕ). EndsRun g.G.Told.plan ds (made g.G.Told.plan ds turns) (seen_of g.V.Device.faults n before ran.recorder ran.history now) (opens_last g.G.Told.plan c.in-Ok-make-2.floor.run ran.recorder.last) ran.failures ran.outcome)
+    (ap (λ (x : Parts _). x.faults) parts) c.run_on.ensures.ends))
+
+pub returns-in-Ok-make-2-clause-fresh : goal.returns-in-Ok-make-2-clause-fresh
+returns-in-Ok-make-2-clause-fresh g c =
+    let ran = c.run_on.result in
+    let p = g.G.Told.plan in
+    let ds = g.G.Told.draws in
+    subst (λ (q : Sizes). AreFresh q ran.recorder.trace) c.requires.plan
+    (fresh p ds (made p ds c.args.turns.now)
+    (seen_of g.V.Device.faults c.in-Ok-make-2.floor.faults (g.R.Records.faults c.args.batch.now) ran.recorder ran.history (g.R.Records.faults c.run_on.new.batch))
+    (opens_last p c.in-Ok-make-2.floor.run ran.recorder.last) ran.failures ran.outcome c.run_on.ensures.ends
+    (subst ArePlanned (sym c.requires.plan) c.most_entries-entries.ensures.planned))

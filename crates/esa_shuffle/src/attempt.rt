@@ -1,0 +1,51 @@
+//! One attempt of a run.
+
+ghost use Rattle.std.specs.Prelude.{◌≡◌, ◌+◌, ◌<◌, ◌≤◌, All, None, length};
+ghost use Rattle.esa_crew.specs.Posts.{AreMembers};
+ghost use Rattle.esa_floor.specs.Marks.{roots_of};
+ghost use Rattle.esa_floor.specs.Parts.{begun_as};
+ghost use Rattle.esa_floor.specs.Standing.{Stands};
+ghost use Rattle.esa_spec.specs.Completion.{completed, full};
+ghost use Rattle.esa_shuffle.specs.Attempts.{AddsAttempt, AttemptEnd};
+
+use crate::rest::finish;
+use esa_crew::{begin, replay};
+use esa_device::Device;
+use esa_floor::{Floor, Told, Worker};
+use esa_press::Press;
+use esa_spec::{Coins, Verdict};
+use esa_vault::VaultFault;
+
+/// Makes an attempt: it is begun, takes the turns of a list that was handed in, completed, and is drained and compressed.
+pub(crate) fn make_attempt<V: Device, G: Told, C: Coins>(
+    floor: &mut Floor<V, G>,
+    workers: &mut [Worker<'_, C>],
+    press: &mut Press,
+    coins: &C,
+    attempt: u32,
+    turns: &[u32],
+) -> Result<Verdict, VaultFault>
+    requires stands { Stands V.faults G.plan G.draws (begun_as floor.old attempt) }
+    requires attempt { attempt < floor.old.plan.attempts }
+    requires some { 1 ≤ floor.old.plan.workers }
+    requires room { length floor.old.history + 1 + length (completed floor.old.plan turns.now) < floor.old.room }
+    requires members { AreMembers G.draws C.target_list floor.old workers.old }
+    requires each { length workers.old ≡ floor.old.plan.workers }
+    requires numbers { All (λ number. number < floor.old.plan.workers) turns.now }
+    requires few { length turns.now ≤ 4194304 }
+    requires plan { press.old.plan ≡ floor.old.plan }
+    requires run { press.old.run ≡ floor.old.run }
+    requires coins { C.plan coins.now ≡ floor.old.plan }
+    ensures ends { AttemptEnd V.faults G.plan G.draws attempt floor.new result }
+    ensures history { AddsAttempt floor.old.plan (full floor.old.plan (G.draws attempt) turns.now) floor.old.history floor.new.history result }
+    ensures origin { roots_of floor.new ≡ roots_of floor.old }
+    ensures outcome { floor.new.outcome ≡ None }
+    ensures members { AreMembers G.draws C.target_list floor.new workers.new }
+    ensures each { length workers.new ≡ length workers.old }
+    ensures plan { press.new.plan ≡ press.old.plan }
+    ensures run { press.new.run ≡ press.old.run }
+{
+    begin(floor, workers, attempt);
+    replay(floor, workers, turns);
+    finish(floor, press, coins, attempt)
+}

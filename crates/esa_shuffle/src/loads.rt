@@ -1,0 +1,39 @@
+//! The load of a run.
+
+ghost use Rattle.std.specs.Prelude.{◌≡◌};
+ghost use Rattle.esa_params.specs.Form.{envelope_length};
+ghost use Rattle.esa_shuffle.specs.Loading.{EndsLoad, IsNewFloor};
+
+use esa_crew::loaded_floors_begin;
+use esa_device::Device;
+use esa_floor::{Floor, Outcome, Told};
+use esa_load::{LoadFault, Loader};
+use esa_outside::Records;
+
+/// Loads a batch on a floor on which nothing was done. Where the batch or the device failed, the run ends so.
+pub(crate) fn load<V: Device, G: Told, R: Records>(
+    floor: &mut Floor<V, G>,
+    loader: &mut Loader,
+    batch: &mut R,
+) -> Result<(), Outcome>
+    requires new { IsNewFloor V.faults G.plan G.draws floor.old }
+    requires plan { loader.old.plan ≡ floor.old.plan }
+    requires run { loader.old.run ≡ floor.old.run }
+    requires count { R.count batch.old ≡ floor.old.plan.n }
+    requires size { R.size batch.old ≡ envelope_length floor.old.plan.form }
+    ensures ends { EndsLoad V.faults G.plan G.draws floor.new (R.faults batch.old) (R.faults batch.new) result }
+    ensures floor { floor.new ≡ record floor.old { recorder = floor.new.recorder } }
+    ensures told { R.told batch.new ≡ R.told batch.old }
+    ensures grounds { R.grounds batch.new ≡ R.grounds batch.old }
+    ensures count { R.count batch.new ≡ R.count batch.old }
+    ensures size { R.size batch.new ≡ R.size batch.old }
+{
+    match loader.load(floor.recorder(), batch) {
+        Ok(()) => {
+            loaded_floors_begin::<V>();
+            Ok(())
+        }
+        Err(LoadFault::Batch(_)) => Err(Outcome::BatchFailed),
+        Err(LoadFault::Device(number)) => Err(Outcome::DeviceFault(number)),
+    }
+}

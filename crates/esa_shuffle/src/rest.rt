@@ -1,0 +1,75 @@
+//! What comes after the turns of an attempt: the drain and the compression.
+
+ghost use Rattle.std.specs.Prelude.{◌≡◌, ◌*◌, ◌<◌, None, Some, length};
+ghost use Rattle.esa_floor.specs.Standing.{Stands};
+ghost use Rattle.esa_press.specs.Over.{IsDistributed};
+ghost use Rattle.esa_shuffle.specs.Attempts.{AttemptEnd, end_of};
+
+use esa_device::Device;
+use esa_floor::{Floor, Stop, Told};
+use esa_press::{Halt, Press};
+use esa_spec::{Coins, Verdict};
+use esa_vault::VaultFault;
+
+/// How an attempt ends whose rest was not done.
+fn end_by(halt: Halt) -> Result<Verdict, VaultFault>
+    ensures { result ≡ end_of halt }
+{
+    match halt {
+        Halt::Verdict(verdict) => Ok(verdict),
+        Halt::Fault(fault) => Err(fault),
+    }
+}
+
+/// Drains and compresses an attempt whose chunks are all written.
+fn press_on<V: Device, G: Told, C: Coins>(
+    floor: &mut Floor<V, G>,
+    press: &mut Press,
+    coins: &C,
+    attempt: u32,
+) -> Result<Verdict, VaultFault>
+    requires distributed { IsDistributed V.faults G.plan G.draws floor.old attempt }
+    requires plan { press.old.plan ≡ floor.old.plan }
+    requires run { press.old.run ≡ floor.old.run }
+    requires coins { C.plan coins.now ≡ floor.old.plan }
+    ensures ends { AttemptEnd V.faults G.plan G.draws attempt floor.new result }
+    ensures floor { floor.new ≡ record floor.old { recorder = floor.new.recorder; stash = floor.new.stash } }
+    ensures plan { press.new.plan ≡ press.old.plan }
+    ensures run { press.new.run ≡ press.old.run }
+{
+    if let Err(halt) = press.drain(floor, attempt) {
+        return end_by(halt);
+    }
+    match press.compress(floor, coins, attempt) {
+        Ok(()) => Ok(Verdict::Good),
+        Err(halt) => end_by(halt),
+    }
+}
+
+/// Goes on with an attempt that takes no more turns: they have stopped, or all chunks are written. It is drained and
+/// compressed, unless a turn of it failed.
+pub(crate) fn finish<V: Device, G: Told, C: Coins>(
+    floor: &mut Floor<V, G>,
+    press: &mut Press,
+    coins: &C,
+    attempt: u32,
+) -> Result<Verdict, VaultFault>
+    requires stands { Stands V.faults G.plan G.draws floor.old }
+    requires attempt { floor.old.attempt ≡ Some attempt }
+    requires room { length floor.old.history < floor.old.room }
+    requires all { floor.old.stop ≡ None → floor.old.counted.writes ≡ floor.old.plan.b * floor.old.plan.b }
+    requires plan { press.old.plan ≡ floor.old.plan }
+    requires run { press.old.run ≡ floor.old.run }
+    requires coins { C.plan coins.now ≡ floor.old.plan }
+    ensures ends { AttemptEnd V.faults G.plan G.draws attempt floor.new result }
+    ensures floor { floor.new ≡ record floor.old { recorder = floor.new.recorder; stash = floor.new.stash } }
+    ensures plan { press.new.plan ≡ press.old.plan }
+    ensures run { press.new.run ≡ press.old.run }
+{
+    match floor.stop() {
+        None => press_on(floor, press, coins, attempt),
+        Some(Stop::StashOverflow(bucket)) => Ok(Verdict::StashOverflow(bucket)),
+        Some(Stop::DeviceFault(number)) => Err(VaultFault::Device(number)),
+        Some(Stop::Tampered(number)) => Err(VaultFault::Tampered(number)),
+    }
+}
