@@ -1,7 +1,7 @@
 #!/usr/bin/env python3
 """What batch costs, beside the bare hex decoding and std's bare sort of the same envelopes.
 
-Instructions are callgrind's, so that a busy machine changes nothing. The data is made here, by esa_bench: submissions
+Instructions are callgrind's, so that a busy machine changes nothing. The data is made here, by esa_bench_records: submissions
 of form One whose envelopes are bytes that a generator draws.
 """
 
@@ -12,7 +12,7 @@ from measure import SIZES, instructions, peak_memory, program, settle, targets_o
 
 
 def main():
-    esa, bench = program("esa"), program("esa_bench")
+    esa, bench = program("esa"), program("esa_bench_records")
     print(f"{'records':>8} {'instructions':>14} {'each':>7} {'of bare':>8} {'peak of input and output':>24}", flush=True)
     with tempfile.TemporaryDirectory() as folder:
         with open(os.path.join(folder, "job.json"), "w") as file:

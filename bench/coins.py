@@ -24,7 +24,7 @@ LIMIT = 1.5
 
 
 def main():
-    bench = program("esa_bench")
+    bench = program("esa_bench_shuffle")
     targets = []
     for draw in ["single", "separators"]:
         drawn = instructions([bench, f"coins-{draw}", str(RECORDS)], ".")

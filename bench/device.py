@@ -1,7 +1,7 @@
 #!/usr/bin/env python3
 """How often a device in a file calls the system, beside the accesses that are made of it.
 
-esa_bench writes each of 88 blocks once and reads each once. strace lists the calls on the device's file: one to open it
+esa_bench_blocks writes each of 88 blocks once and reads each once. strace lists the calls on the device's file: one to open it
 anew, one to size it, and then one for each access, which gives or takes the whole block at its place. The bytes go from
 and to the caller's buffer.
 """
@@ -19,7 +19,7 @@ ACCESSES = 176
 
 
 def main():
-    bench = program("esa_bench")
+    bench = program("esa_bench_blocks")
     with tempfile.TemporaryDirectory() as folder:
         log = os.path.join(folder, "calls")
         subprocess.run(["strace", "-f", "-e", f"trace={CALLS}", "-e", "signal=none", "-o", log, bench, "device"],

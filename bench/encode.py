@@ -17,12 +17,12 @@ KEYS = {"outer": bytes(range(32)).hex(), "inner": bytes(range(32, 64)).hex()}
 
 
 def main():
-    esa, bench = program("esa"), program("esa_bench")
+    esa, bench, blocks = program("esa"), program("esa_bench_records"), program("esa_bench_blocks")
     print(f"{'reports':>8} {'instructions':>14} {'each':>7} {'of bare':>8} {'digits each':>11} {'by text':>8} {'peak of files':>13}", flush=True)
     with tempfile.TemporaryDirectory() as folder:
         write(folder, "keys.json", KEYS)
         write(folder, "encode.json", {"keys": "keys.json", "input": "reports", "output": "submissions", "nonce_base": 0})
-        rows = {size: measure(esa, bench, folder, size) for size in SIZES}
+        rows = {size: measure(esa, bench, blocks, folder, size) for size in SIZES}
     settle(targets_of("encode", rows))
 
 
@@ -32,7 +32,7 @@ def write(folder, name, fields):
         json.dump(fields, file)
 
 
-def measure(esa, bench, folder, size):
+def measure(esa, bench, blocks, folder, size):
     """Prints one row of the table, and answers the instructions a report, and those and the peak beside what they are measured by."""
     write(folder, "gen.json", {"output": "reports", "number": 0, "records": size, "crowds": 40})
     peak_memory([esa, "gen", "gen.json"], folder)
@@ -41,7 +41,7 @@ def measure(esa, bench, folder, size):
     nothing = instructions([bench, "digits-slice", "0"], folder)
     digits = instructions([bench, "digits-slice", str(size)], folder)
     text = instructions([bench, "digits-text", str(size)], folder)
-    bare = digits + instructions([bench, "hash", str(8 * size)], folder) + instructions([bench, "keystream", str(50 * size)], folder)
+    bare = digits + instructions([blocks, "hash", str(8 * size)], folder) + instructions([blocks, "keystream", str(50 * size)], folder)
     files = sum(os.path.getsize(os.path.join(folder, name)) for name in ["reports", "submissions"])
     peak = peak_memory(command, folder) / files
     print(f"{size:>8} {count:>14} {count / size:>7.0f} {count / bare:>8.2f} {(digits - nothing) / size:>11.0f}"

@@ -27,7 +27,7 @@ RATIO, GROWTH, MEMORY = 4, 1.1, 1.02
 
 def main():
     os.environ["GLIBC_TUNABLES"] = "glibc.cpu.x86_rep_movsb_threshold=268435456"
-    bench = program("esa_bench")
+    bench = program("esa_bench_shuffle")
     print(f"{'shuffle':>12} {'attempts':>8} {'accesses':>9} {'records':>8} {'instructions':>13} {'of bare':>8} {'memory':>7}", flush=True)
     targets = []
     with tempfile.TemporaryDirectory() as folder:

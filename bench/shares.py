@@ -23,26 +23,27 @@ FEW_VALUES, MANY_SHARES, GROWTH = 3_000, 12, 1.3
 
 
 def main():
-    bench = program("esa_bench")
+    bench, blocks = program("esa_bench_records"), program("esa_bench_blocks")
     with tempfile.TemporaryDirectory() as folder:
         run = lambda *words: instructions([bench, *map(str, words)], folder)
-        settle([encoded(run), *recovered(run)])
+        bare_hash = lambda count: instructions([blocks, "hash", str(count)], folder)
+        settle([encoded(run, bare_hash), *recovered(run, bare_hash)])
 
 
-def encoded(run):
+def encoded(run, bare_hash):
     """The target of encoding."""
     plain, shares = run("shares-values", ENCODED, SHARES), run("shares-encode", ENCODED, SHARES)
-    bare = run("hash", ADDED * ENCODED)
+    bare = bare_hash(ADDED * ENCODED)
     print(f"encoded {ENCODED}: {plain / ENCODED:.0f} instructions a value, {shares / ENCODED:.0f} as a share", flush=True)
     return f"encode with {SHARES} shares, of encode and {ADDED} blocks of the bare hash", shares / (plain + bare), ENCODE_LIMIT
 
 
-def recovered(run):
+def recovered(run, bare_hash):
     """The targets of recovering."""
     rows = {}
     for values, shares in [(FEW_VALUES, SHARES), (VALUES, SHARES), (FEW_VALUES, MANY_SHARES)]:
         made, copied, whole = (run(f"shares-{work}", values, shares) for work in ["make", "copy", "recover"])
-        bare = run("hash", values)
+        bare = bare_hash(values)
         count = values * shares + values // 3
         rows[values, shares] = (whole - made) / (copied - made + bare), (whole - copied) / (count * shares)
         print(f"{count:>8} rows of {values} values, {shares} shares: {(copied - made) / count:.0f} instructions a row to copy,"

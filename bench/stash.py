@@ -15,7 +15,7 @@ LIMIT = 1.2
 
 
 def main():
-    bench = program("esa_bench")
+    bench = program("esa_bench_shuffle")
     print(f"{'held':>8} {'instructions an item':>20}")
     costs = [each(bench, held) for held in HELD]
     for held, cost in zip(HELD, costs):

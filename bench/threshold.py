@@ -21,12 +21,12 @@ UNIT = 64_000
 
 
 def main():
-    bench = program("esa_bench")
+    bench, blocks = program("esa_bench_shuffle"), program("esa_bench_blocks")
     targets = []
     print(f"{'records':>8} {'':>12} {'instructions':>13} {'a record':>9} {'sorting':>8} {'of bare':>8}", flush=True)
     with tempfile.TemporaryDirectory() as folder:
-        block = instructions([bench, "hash", str(UNIT)], folder) / UNIT
-        word = instructions([bench, "keystream", str(UNIT)], folder) / UNIT
+        block = instructions([blocks, "hash", str(UNIT)], folder) / UNIT
+        word = instructions([blocks, "keystream", str(UNIT)], folder) / UNIT
         for name, crowds_of in CROWDS.items():
             each = {}
             for records in SIZES:

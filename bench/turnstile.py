@@ -47,7 +47,7 @@ def main():
         lock = os.path.join(folder, "ticket_lock")
         subprocess.run(["rustc", "--edition", "2021", "-O", "-o", lock, os.path.join(here, "ticket_lock.rs")], check=True)
         rust = [lock]
-        ours = [measure.program("esa_bench"), "turnstile"]
+        ours = [measure.program("esa_bench_turnstile")]
 
         theirs, mine = least([[*rust, ONE_TURNS, 1, 0, 0], [*ours, ONE_TURNS, 1, 0, 0]], ONE_RUNS)
         print(f"one thread: {mine / ONE_TURNS:.1f} ns a turn, the ticket lock {theirs / ONE_TURNS:.1f} ns, "

@@ -18,7 +18,7 @@ LIMIT = 1.2
 
 
 def main():
-    bench = program("esa_bench")
+    bench = program("esa_bench_blocks")
     targets = []
     print(f"{'form':>4} {'items':>6} {'real':>6} {'instructions':>13} {'of bare':>8}")
     with tempfile.TemporaryDirectory() as folder:
