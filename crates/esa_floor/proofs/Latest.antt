@@ -59,6 +59,9 @@ is_write : (op : Op) → is_writing op ≡ true → op ≡ Writes
 is_write Reads never = absurd (cc never)
 is_write Writes writes = refl
 
+pub writes_op : (p : Sizes) (number : ℕ) (access : Access) → writes_number p number access ≡ true → access.op ≡ Writes
+writes_op p number access writes = is_write access.op (both-true (is_writing access.op) (slot_number p access == number) writes).0
+
 -- slots of one number are one slot
 same_mid : (p : Sizes) (r : Region) (x y : ℕ) → IsPlanned p (at r x) → y < p.b * p.b → number_of p (at r x) ≡ number_of p (at Mid y) → (r ≡ Mid) × (x ≡ y)
 same_mid p Input x y inside y_in same = absurd (omega (arith, inside, y_in, same))

@@ -3,6 +3,7 @@ pub mod Chunking
 mod Counting
 mod Dealing
 mod Exchanging
+pub mod Failing
 mod Fitting
 mod Holding
 mod Keeping

@@ -1,5 +1,5 @@
 -- What the writes of a run took, of every attempt: the seals of the records of their blocks.
-use Rattle.std.specs.Prelude.{◌≡◌, ◌≢◌, ℕ, ◌+◌, ◌/◌, ◌%◌, ◌<◌, ◌≤◌, ◌==◌, List, [], All, Some, count_by, map, slice_index_or}
+use Rattle.std.specs.Prelude.{◌≡◌, ◌≢◌, ℕ, ◌+◌, ◌/◌, ◌%◌, ◌<◌, ◌≤◌, ◌==◌, List, [], ◌∷◌, ◌++◌, All, Option, Some, None, count_by, map, slice_index_or}
 use Rattle.esa_device.specs.Logs.{Carried, latest_carried}
 use Rattle.esa_envelope.specs.declared.keys.Keys.{Keys}
 use Rattle.esa_params.specs.Sizes.{Sizes}
@@ -20,6 +20,8 @@ use Rattle.esa_vault.specs.Filled.{text_of}
 use Rattle.esa_vault.specs.Seals.{sealed_block}
 use Rattle.esa_floor.specs.Keeping.{HasInput}
 use Rattle.esa_floor.specs.Parts.{Parts}
+use Rattle.esa_floor.specs.declared.turn.Stop.{Stop}
+use Rattle.esa_floor.specs.declared.turn.Stop.TheVariants.{DeviceFault, StashOverflow, Tampered}
 
 -- the turns of an attempt: those from its owner's entry on, up to the next one
 abbrev pub attempt_turns : {V : Type 0} → Parts V → ℕ → List ℕ
@@ -75,3 +77,19 @@ tail_seal p run a d record_of o i = sealed_block p run (at Tail i) a (text_of (i
 -- the block of output bucket j in an attempt with the turns h: the seal of the records of its places, in order
 abbrev pub output_seal : Sizes → Keys → ℕ → Draw → (ℕ → Item) → List ℕ → ℕ → List ℕ
 output_seal p run a d record_of h j = sealed_block p run (at Output j) a (text_of (item_length p.form) (map record_of (output_places p d h j)))
+
+-- no write of the log failed
+abbrev pub NoWriteFailed : List Carried → Type 0
+NoWriteFailed log = All (λ (entry : Carried). entry.access.op ≡ Writes → entry.bytes ≢ None) log
+
+-- no write of the log failed, unless it is the last access
+abbrev pub OnlyLastFailed : List Carried → Type 0
+OnlyLastFailed log =
+    (before after : List Carried) (entry : Carried) → log ≡ before ++ entry ∷ after → entry.access.op ≡ Writes → entry.bytes ≡ None → after ≡ []
+
+-- which writes failed, by the stop that there is after them
+abbrev pub WritesFailed : Option Stop → List Carried → Type 0
+WritesFailed None log = NoWriteFailed log
+WritesFailed (Some (DeviceFault number)) log = OnlyLastFailed log
+WritesFailed (Some (Tampered number)) log = NoWriteFailed log
+WritesFailed (Some (StashOverflow j)) log = NoWriteFailed log

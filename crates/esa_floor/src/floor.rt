@@ -14,7 +14,7 @@ ghost use Rattle.esa_floor.specs.Logging.{noted_of, read_of, write_of};
 ghost use Rattle.esa_floor.specs.Marks.{mark_of, roots_of};
 ghost use Rattle.esa_floor.specs.Workers.{IsInRound, IsOfFloor, WorkerStands, moved};
 ghost use Rattle.esa_floor.specs.Working.{IsReady, Working, handed_by, passed};
-ghost use Rattle.esa_floor.specs.Written.{EachTookItsBlock};
+ghost use Rattle.esa_floor.specs.Written.{EachTookItsBlock, WritesFailed};
 ghost use Rattle.esa_floor.specs.Parts.{begun_as, count_at, ended_as, no_counts, nothing_counted, with_entry};
 ghost use Rattle.esa_floor.specs.Standing.{IsAtWork, Stands, StopsAt, attempt_begun, turns_made};
 
@@ -615,6 +615,9 @@ impl<V: Device, G: Told> Floor<V, G> {
         ensures others_chunks { (other : Working C) → HoldsChunks G.draws self.old other → HoldsChunks G.draws self.new other }
         ensures slots { HoldsChunks G.draws self.old worker.old → SlotsHold G.draws self.old → SlotsHold G.draws self.new }
         ensures took { (record_of : ℕ → Item) → HoldsChunks G.draws self.old worker.old → EachTookItsBlock G.draws record_of self.old → EachTookItsBlock G.draws record_of self.new }
+
+        // No write failed but the last access, where the stop is that the device failed.
+        ensures writes { WritesFailed self.old.stop self.old.recorder.log → WritesFailed self.new.stop self.new.recorder.log }
 
         // Where this turn fails, the turns stop at it, and the queues and the slots hold what those before it made.
         ensures stops { self.old.attempt ≢ None → self.old.stop ≡ None → self.new.stop ≢ None → StopsAfter V.faults G.draws (turns_made self.old) self.new }

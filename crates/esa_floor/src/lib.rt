@@ -20,7 +20,8 @@ mod worker;
 
 pub use floor::{Floor, Given, History, NoFloor, Roots};
 pub use slots::{
-    attempts_have_their_turns, each_write_takes_its_block, latest_writes_took_their_blocks,
+    attempts_have_their_turns, each_write_takes_its_block, latest_writes_moved_their_bytes,
+    latest_writes_took_their_blocks,
 };
 pub use told::Told;
 pub use turn::{Outcome, Stop, Turn};

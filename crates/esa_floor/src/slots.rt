@@ -2,7 +2,9 @@
 //!
 //! The functions do nothing when they run. They are there so that each law is proved where a contract names it.
 
-ghost use Rattle.std.specs.Prelude.{◌≡◌, ℕ, ◌<◌, ◌≤◌, All, List, [], length, slice_index_or};
+ghost use Rattle.std.specs.Prelude.{◌≡◌, ℕ, ◌<◌, ◌≤◌, ◌++◌, ◌∷◌, All, List, [], Some, None, length, slice_index_or};
+ghost use Rattle.esa_device.specs.Logs.{Carried, latest_carried};
+ghost use Rattle.esa_params.specs.Sizes.{Sizes};
 ghost use Rattle.esa_params.specs.Slots.{at};
 ghost use Rattle.esa_params.specs.declared.slot.Access.{Access};
 ghost use Rattle.esa_params.specs.declared.slot.Region.{Region};
@@ -14,7 +16,7 @@ ghost use Rattle.esa_spec.specs.Turns.{order};
 ghost use Rattle.esa_floor.specs.Keeping.{HasInput, chunk_block};
 ghost use Rattle.esa_floor.specs.Parts.{Parts, begun_as, ended_as};
 ghost use Rattle.esa_floor.specs.Standing.{attempt_begun, lists_before, turns_made};
-ghost use Rattle.esa_floor.specs.Written.{EachTookItsBlock, IsLatest, IsOfInput, attempt_turns, output_seal, tail_seal};
+ghost use Rattle.esa_floor.specs.Written.{EachTookItsBlock, IsLatest, IsOfInput, NoWriteFailed, OnlyLastFailed, attempt_turns, output_seal, tail_seal};
 ghost use Rattle.esa_floor.specs.declared.turn.Outcome.{Outcome};
 
 use esa_device::Device;
@@ -47,4 +49,14 @@ pub fn latest_writes_took_their_blocks<V: Device>()
     ensures outputs { (ds : ℕ → Draw) (record_of : ℕ → Item) (f : Parts V) (j : ℕ) (access : Access) (bytes : List ℕ)
         → EachTookItsBlock ds record_of f → HasInput f record_of → j < f.plan.b → IsLatest f (at Region.Output j) access bytes
         → bytes ≡ output_seal f.plan f.run access.attempt (ds access.attempt) record_of (attempt_turns f access.attempt) j }
+{}
+
+/// Where no write failed but the last access, the latest write of each slot took bytes, unless it is that access. Where none
+/// failed at all, each did.
+pub fn latest_writes_moved_their_bytes()
+    ensures each { (p : Sizes) (number : ℕ) (entry : Carried) (log : List Carried) → NoWriteFailed log → latest_carried p number log ≡ Some entry
+        → (bytes : List ℕ) × (entry.bytes ≡ Some bytes) }
+    ensures failed { (p : Sizes) (number : ℕ) (access : Access) (log : List Carried) → OnlyLastFailed log
+        → latest_carried p number log ≡ Some (record { access = access; bytes = None })
+        → (before : List Carried) × (log ≡ before ++ record { access = access; bytes = None } ∷ []) }
 {}

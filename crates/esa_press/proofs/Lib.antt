@@ -1,5 +1,6 @@
 pub mod Counting
 pub mod Draining
+pub mod Failing
 pub mod Fetching
 pub mod Finishing
 pub mod Moving

@@ -3,7 +3,7 @@ use Rattle.std.specs.Prelude.{◌≡◌, ℕ, ◌<◌, ◌++◌, ◌&&◌, Bool,
 use Rattle.esa_device.specs.Logs.{Carried, Took}
 use Rattle.esa_envelope.specs.declared.keys.Keys.{Keys}
 use Rattle.esa_floor.specs.Keeping.{AreChunksStored}
-use Rattle.esa_floor.specs.Written.{TookItsBlock, output_seal, tail_seal}
+use Rattle.esa_floor.specs.Written.{NoWriteFailed, OnlyLastFailed, TookItsBlock, output_seal, tail_seal}
 use Rattle.esa_params.specs.Sizes.{Sizes}
 use Rattle.esa_params.specs.Slots.{at, is_writing, item_length, number_of}
 use Rattle.esa_params.specs.declared.slot.Op.TheVariants.{Write as Writes}
@@ -96,3 +96,10 @@ EachOpens (Ok done) whole stopped = whole
 EachOpens (Err (Verdict v)) whole stopped = stopped
 EachOpens (Err (Fault (Device number))) whole stopped = stopped
 EachOpens (Err (Fault (Tampered number))) whole stopped = ⊥
+
+-- which writes failed, by how it ended: none, or the last access alone
+abbrev pub EndsWriting : {T : Type 0} → Result T Halt → List Carried → Type 0
+EndsWriting (Ok done) log = NoWriteFailed log
+EndsWriting (Err (Verdict v)) log = NoWriteFailed log
+EndsWriting (Err (Fault (Device number))) log = OnlyLastFailed log
+EndsWriting (Err (Fault (Tampered number))) log = NoWriteFailed log

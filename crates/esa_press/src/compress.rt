@@ -6,12 +6,12 @@ ghost use Rattle.esa_compress.specs.Held.{held_in};
 ghost use Rattle.esa_device.specs.Logs.{Carried, IsFaithful};
 ghost use Rattle.esa_floor.specs.Keeping.{HasInput};
 ghost use Rattle.esa_floor.specs.Standing.{turns_made};
-ghost use Rattle.esa_floor.specs.Written.{EachTookItsBlock, attempt_turns};
+ghost use Rattle.esa_floor.specs.Written.{EachTookItsBlock, NoWriteFailed, attempt_turns};
 ghost use Rattle.esa_params.specs.Sizes.{ArePlanned, first};
 ghost use Rattle.esa_spec.specs.Turns.{order};
 ghost use Rattle.esa_spec.specs.Verdicts.{Import, imported, reached, steps, steps_of};
 ghost use Rattle.esa_report.specs.declared.item.Item.{Item};
-ghost use Rattle.esa_press.specs.Contents.{AreOrders, ArePut, EachOpens, GoesOnPressing, HoldsDistribution, waiting_items};
+ghost use Rattle.esa_press.specs.Contents.{AreOrders, ArePut, EachOpens, EndsWriting, GoesOnPressing, HoldsDistribution, waiting_items};
 ghost use Rattle.esa_press.specs.Fetched.{AreStored, GoesOnReading};
 ghost use Rattle.esa_press.specs.Records.{imported_items};
 ghost use Rattle.esa_press.specs.Stepped.{AreCounted, AreMade};
@@ -134,6 +134,7 @@ impl Press {
         ensures put { OnOk result (first floor.old.plan (output + 1) ≤ reached floor.old.plan (G.draws attempt) end) }
         ensures waits { OnOk result (length self.new.queue ≡ reached floor.old.plan (G.draws attempt) end - first floor.old.plan (output + 1)) }
         ensures log { GoesOnPressing floor.old.recorder.log floor.new.recorder.log }
+        ensures writes { NoWriteFailed floor.old.recorder.log → EndsWriting result floor.new.recorder.log }
         ensures puts { (record_of : ℕ → Item) (before : List Carried) → ArePlanned floor.old.plan → AreOrders floor.old.plan (G.draws attempt) (C.order_list coins.now attempt)
             → HoldsDistribution floor.old.plan floor.old.run (G.draws attempt) (turns_made floor.old) attempt record_of before
             → ArePut floor.old.plan floor.old.run (G.draws attempt) (turns_made floor.old) attempt record_of output before floor.old.recorder.log
@@ -194,6 +195,7 @@ impl Press {
             → AreOrders floor.old.plan (G.draws attempt) (C.order_list coins.now attempt)
             → HoldsDistribution floor.old.plan floor.old.run (G.draws attempt) (turns_made floor.old) attempt record_of floor.old.recorder.log
             → EachTookItsBlock G.draws record_of floor.old → EachTookItsBlock G.draws record_of floor.new }
+        ensures writes { NoWriteFailed floor.old.recorder.log → EndsWriting result floor.new.recorder.log }
     {
         let plan = self.plan();
         self.clear();

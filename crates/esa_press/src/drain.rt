@@ -4,12 +4,12 @@ ghost use Rattle.std.specs.Prelude.{◌≡◌, ℕ, ◌*◌, ◌<◌, ◌≤◌,
 ghost use Rattle.esa_device.specs.Logs.{IsFaithful};
 ghost use Rattle.esa_floor.specs.Keeping.{AreChunksStored, HasInput};
 ghost use Rattle.esa_floor.specs.Standing.{IsSpread, turns_made};
-ghost use Rattle.esa_floor.specs.Written.{EachTookItsBlock, attempt_turns};
+ghost use Rattle.esa_floor.specs.Written.{EachTookItsBlock, NoWriteFailed, attempt_turns};
 ghost use Rattle.esa_spec.specs.Draws.{IsDrawn};
 ghost use Rattle.esa_spec.specs.Turns.{order};
 ghost use Rattle.esa_stash.specs.Stash.{queue_at};
 ghost use Rattle.esa_report.specs.declared.item.Item.{Item};
-ghost use Rattle.esa_press.specs.Contents.{AreQueued, AreTailsStored};
+ghost use Rattle.esa_press.specs.Contents.{AreQueued, AreTailsStored, EndsWriting};
 ghost use Rattle.esa_press.specs.Drained.{DrainEnd};
 ghost use Rattle.esa_press.specs.Stepped.{AreCounted};
 
@@ -49,6 +49,7 @@ impl Press {
         ensures took { (record_of : ℕ → Item) → attempt_turns floor.old attempt ≡ turns_made floor.old
             → AreQueued floor.old.plan (G.draws attempt) (turns_made floor.old) record_of floor.old.stash
             → EachTookItsBlock G.draws record_of floor.old → EachTookItsBlock G.draws record_of floor.new }
+        ensures writes { NoWriteFailed floor.old.recorder.log → EndsWriting result floor.new.recorder.log }
     {
         for target in 0..self.plan().b() {
             if let Err(halt) = self.drain_one(floor, attempt, target) {

@@ -108,6 +108,7 @@ loop-made-preserved g c =
       queues = λ all queues. done.queues (inv.hold all queues) (inv.queues all queues);
       slots = λ all queues slots. done.slots (inv.hold all queues) (inv.slots all queues slots);
       took = λ record_of all queues took. done.took record_of (inv.hold all queues) (inv.took record_of all queues took);
+      writes = λ before. done.writes (inv.writes before);
       stops = λ ran halted. (
         turns_made now,
         done.stops halted,
@@ -178,6 +179,12 @@ pub returns-clause-others_hold : goal.returns-clause-others_hold
 returns-clause-others_hold g c =
     let f = c.args.floor.now in
     c.loop-made.invariant.others_hold (not_stopped g.V.Device.faults g.G.Told.plan g.G.Told.draws f c.requires.stands c.requires.begun c.requires.fresh f.stop refl)
+
+pub returns-then-is_over-clause-writes : goal.returns-then-is_over-clause-writes
+returns-then-is_over-clause-writes g c = c.loop-made.invariant.writes
+
+pub returns-clause-writes : goal.returns-clause-writes
+returns-clause-writes g c = c.loop-made.invariant.writes
 
 pub returns-then-is_over-clause-stops : goal.returns-then-is_over-clause-stops
 returns-then-is_over-clause-stops g c =

@@ -73,3 +73,6 @@ returns-clause-slots_before g c = c.turn.ensures.slots_before c.requires.begun c
 pub returns-clause-others_before : goal.returns-clause-others_before
 returns-clause-others_before g c = λ other stopped holds.
     c.turn.ensures.others_before other c.requires.begun c.requires.runs stopped holds.records holds.chunks
+
+pub returns-clause-writes : goal.returns-clause-writes
+returns-clause-writes g c = c.turn.ensures.writes

@@ -5,8 +5,9 @@ use Rattle.esa_floor.specs.Keeping.{HoldsAfter, HoldsChunks, HoldsRecords, Queue
 use Rattle.esa_floor.specs.Parts.{Parts}
 use Rattle.esa_floor.specs.Standing.{attempt_begun, turns_made}
 use Rattle.esa_floor.specs.Working.{Working}
-use Rattle.esa_floor.specs.Written.{EachTookItsBlock}
+use Rattle.esa_floor.specs.Written.{EachTookItsBlock, WritesFailed}
 use Rattle.esa_floor.proofs.Chunking.{chunks_on, others_on as others_hold_on}
+use Rattle.esa_floor.proofs.Failing.{failed_turn}
 use Rattle.esa_floor.proofs.Queueing.{held_on, queues_on}
 use Rattle.esa_floor.proofs.Resting.{begun_on, mark_grows, others_on}
 use Rattle.esa_floor.proofs.Stopping.{holds_after, holds_still, queues_after, slots_after, stops_on}
@@ -273,3 +274,11 @@ returns-clause-others_still g c = λ h other holds.
     ∙ ap (λ (x : Parts _). record x { history = c.push_reserved.new.self.items; room = room }) (sym c.self.view_is) in
     subst (λ (x : Parts _). HoldsAfter g.G.Told.draws h x other) is
     (holds_still f new w.number room w g.V.Device.faults g.G.Told.draws worker turn.kept c.requires.of.run turn.idle turn.later turn.log h other holds)
+
+pub returns-clause-writes : goal.returns-clause-writes
+returns-clause-writes g c =
+    let f = c.args.self.now in
+    let w = c.args.worker.now in
+    let turn = c.take-turn.ensures in
+    subst (λ (x : Parts _). WritesFailed f.stop f.recorder.log → WritesFailed x.stop x.recorder.log) (sym c.self.view_is)
+    (failed_turn f c.take-turn.new.self w.run (attempt_begun f) (next f.plan.b (turns_made f) w.number) w.buffers.chunks turn.idle turn.later turn.log)

@@ -37,6 +37,7 @@ loop-output-init g c =
       waits = omega (arith, none, start, empty);
       made = made_none g.V.Device.faults f.plan f.run d c.args.attempt (order f.plan.b (turns_made f)) f.recorder tt;
       log = pressing_read f.recorder.log f.recorder.log (reads_none f.recorder.log);
+      writes = λ none. none;
       puts = λ record_of orders holds faithful. (
         put_none f.plan f.run d (turns_made f) c.args.attempt record_of f.recorder.log,
         ap (λ (w : Pressed). w.queue) c.clear.ensures ∙ sym (ap (map record_of) (drop-nil (first f.plan 0))),
@@ -178,6 +179,7 @@ loop-output-preserved g c =
           (subst (λ (x : Parts _). AreMade {T = Unit {0}} g.V.Device.faults x.plan x.run d (order x.plan.b (turns_made x)) c.args.attempt (steps_of x.plan j) old new (Ok tt)) inv.floor
           c.in_default.ensures.made);
       log = pressing_then f.recorder.log old.log new.log inv.log c.put_out.ensures.log;
+      writes = λ none. c.in_default.ensures.writes (inv.writes none);
       puts = λ record_of orders holds faithful.
           let one : Puts {T = Unit {0}} p f.run d h a lists record_of j c.loop-output.from c.min-end.result f.recorder.log old.log new.log c.loop-output.self.queue c.put_out.new.self.queue (Ok tt) =
           subst (λ (x : Parts _). Puts {T = Unit {0}} x.plan x.run d (turns_made x) a lists record_of j c.loop-output.from c.min-end.result f.recorder.log old.log new.log c.loop-output.self.queue c.put_out.new.self.queue (Ok tt))
@@ -185,3 +187,9 @@ loop-output-preserved g c =
           let so_far = inv.puts record_of orders holds (pressing_faithful p old.log new.log c.put_out.ensures.log faithful) in
           one planned orders holds so_far.0 faithful so_far.1;
     }
+
+pub returns-in-Err-clause-writes : goal.returns-in-Err-clause-writes
+returns-in-Err-clause-writes g c = λ none. c.in-Err.ensures.writes (c.loop-output.invariant.writes none)
+
+pub returns-clause-writes : goal.returns-clause-writes
+returns-clause-writes g c = c.loop-output.invariant.writes

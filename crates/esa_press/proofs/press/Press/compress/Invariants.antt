@@ -2,6 +2,7 @@
 use Rattle.std.proofs.Common.{◌≡◌, ◌+◌, ◌-◌, ◌*◌, ◌≤◌, Ok, length, ℕ}
 use Rattle.std.specs.List.{flat_map}
 use Rattle.esa_floor.specs.Standing.{turns_made}
+use Rattle.esa_floor.specs.Written.{NoWriteFailed}
 use Rattle.esa_params.specs.Sizes.{below, first}
 use Rattle.esa_spec.specs.Turns.{order}
 use Rattle.esa_spec.specs.Verdicts.{imported, reached, steps_of}
@@ -24,6 +25,7 @@ invariant-loop-output g l = record {
   made : AreMade {T = Unit {0}} g.V.Device.faults l.fn.floor.plan l.fn.floor.run (g.G.Told.draws l.attempt) (order l.fn.floor.plan.b (turns_made l.fn.floor)) l.attempt
       (flat_map (steps_of l.fn.floor.plan) (below l.output)) l.fn.floor.recorder l.floor.recorder (Ok tt);
   log : GoesOnPressing l.fn.floor.recorder.log l.floor.recorder.log;
+  writes : NoWriteFailed l.fn.floor.recorder.log → NoWriteFailed l.floor.recorder.log;
   puts : (record_of : ℕ → Item) → AreOrders l.fn.floor.plan (g.G.Told.draws l.attempt) (g.C.Coins.order_list l.coins l.attempt)
       → HoldsDistribution l.fn.floor.plan l.fn.floor.run (g.G.Told.draws l.attempt) (turns_made l.fn.floor) l.attempt record_of l.fn.floor.recorder.log
       → IsFaithful l.fn.floor.plan l.floor.recorder.log

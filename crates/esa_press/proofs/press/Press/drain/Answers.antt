@@ -12,6 +12,7 @@ use Rattle.esa_vault.specs.Placed.{IsSpelled}
 use Rattle.esa_press.specs.Drained.{AreDrained}
 use Rattle.esa_press.specs.Pressed.{Pressed}
 use Rattle.esa_press.proofs.Draining.{all_queued, all_waits, counted_then, drain_ends, drained_more, drained_none, none_passes, none_left, noted_more}
+use Rattle.esa_press.proofs.Failing.{drained_ends}
 use Rattle.esa_press.proofs.Storing.{chunks_stay, input_drained, tails_stored}
 use Rattle.esa_press.proofs.Taking.{took_drained}
 use Rattle.esa_press.proofs.press.Press.drain.Goals as goal
@@ -149,3 +150,13 @@ returns-in-Err-clause-took g c = λ record_of made queues.
     let f = c.args.floor.now in
     let a = c.args.attempt in
     took_drained f g.G.Told.draws a (turns_made f) record_of made g.V.Device.faults (sym c.requires.spread.writes ∙ c.requires.all) queues {T = Unit {0}} c.drain_one.new.floor (Err c.in-Err.halt) (returns-in-Err-clause-ends g c)
+
+pub returns-clause-writes : goal.returns-clause-writes
+returns-clause-writes g c =
+    let f = c.args.floor.now in
+    drained_ends g.V.Device.faults c.args.attempt f (g.G.Told.draws c.args.attempt) (order f.plan.b (turns_made f)) c.loop-target.floor (Ok tt) (returns-clause-ends g c)
+
+pub returns-in-Err-clause-writes : goal.returns-in-Err-clause-writes
+returns-in-Err-clause-writes g c =
+    let f = c.args.floor.now in
+    drained_ends g.V.Device.faults c.args.attempt f (g.G.Told.draws c.args.attempt) (order f.plan.b (turns_made f)) c.drain_one.new.floor (Err c.in-Err.halt) (returns-in-Err-clause-ends g c)

@@ -1,4 +1,4 @@
-use Rattle.std.proofs.Common.{◌≡◌, ◌+◌, ◌-◌, ◌≤◌, ℕ, suc, [], ◌∷◌, ◌++◌, Err, map, ap, ◌∙◌, subst, arith, length, take, drop}
+use Rattle.std.proofs.Common.{◌≡◌, ◌+◌, ◌-◌, ◌≤◌, ℕ, suc, [], ◌∷◌, ◌++◌, Err, map, sym, ap, ◌∙◌, subst, arith, length, take, drop}
 use Rattle.std.specs.List.{range_with_len}
 use Rattle.esa_compress.proofs.ImportLaws.{climbs, queue-front, queue-put}
 use Rattle.esa_floor.specs.Standing.{turns_made}
@@ -9,6 +9,8 @@ use Rattle.esa_device.specs.Recording.{Recorded}
 use Rattle.esa_envelope.specs.declared.keys.Keys.{Keys}
 use Rattle.esa_press.specs.Pressed.{Pressed, PutAnswer}
 use Rattle.esa_press.specs.Stepped.{AreMade}
+use Rattle.esa_floor.specs.Written.{NoWriteFailed}
+use Rattle.esa_press.proofs.Failing.{any_end, put_ends, reads_move}
 use Rattle.esa_press.proofs.Fetching.{on_ok}
 use Rattle.esa_press.proofs.Stepping.{made_bad, made_more, put_one, put_totals, put_waits}
 use Rattle.esa_press.proofs.Storing.{holds_on, output_put, pressing_faithful, pressing_put, pressing_read, pressing_then, put_answer_is, put_read, stops_with}
@@ -130,3 +132,16 @@ returns-clause-puts g c = λ record_of before planned orders holds so_far faithf
     ∙ queue-front f.plan d h c.requires.counted.drawn c.requires.counted.all c.requires.counted.fits record_of j i c.requires.within (omega (arith, enough, next, put, long)))
     (ap (drop (size f.plan j)) here_waits ∙ queue-put f.plan d h c.requires.counted.drawn c.requires.counted.all c.requires.counted.fits record_of j i)
     (put_read f.plan f.run d h a record_of j before f.recorder.log mid.log so_far c.import_ahead.ensures.log) answer
+
+pub returns-in-Err-clause-writes : goal.returns-in-Err-clause-writes
+returns-in-Err-clause-writes g c = λ none.
+    let new = c.import_ahead.new.floor.recorder.log in
+    any_end {T = Unit {0}} (Err c.in-Err.halt) new (reads_move c.args.floor.now.recorder.log new c.import_ahead.ensures.log none)
+
+pub returns-clause-writes : goal.returns-clause-writes
+returns-clause-writes g c = λ none.
+    let w = c.import_ahead.new.self in
+    let mid = c.import_ahead.new.floor.recorder in
+    let still = reads_move c.args.floor.now.recorder.log mid.log c.import_ahead.ensures.log none in
+    put_ends g.V.Device.told g.V.Device.faults g.V.Device.last_call w.plan w.run c.args.attempt c.args.output w.queue c.put.new.self.queue c.recorder.result.now c.put.new.recorder c.put.result c.put.ensures.answer
+    (subst (λ (r : Recorded _). NoWriteFailed r.log) (sym c.recorder.ensures.value) still)
