@@ -3,6 +3,7 @@
 ghost use Rattle.std.specs.Prelude.{◌≡◌, ◌≢◌, ℕ, ◌+◌, ◌*◌, ◌<◌, ◌≤◌, ◌++◌, ◌∷◌, ◌^◌, List, [], None, All, true, false, length, option_to_list, slice_index};
 ghost use Rattle.esa_params.specs.Sizes.{ArePlanned};
 ghost use Rattle.esa_spec.specs.Completion.{completed};
+ghost use Rattle.esa_spec.specs.Fronts.{Begins};
 ghost use Rattle.esa_spec.specs.Traces.{asked};
 ghost use Rattle.esa_spec.specs.Turns.{next};
 ghost use Rattle.esa_floor.specs.Keeping.{HoldsAfter, QueuesHold, QueuesHoldAfter, SlotsHold, SlotsHoldAfter, StopsAfter};
@@ -43,6 +44,7 @@ fn step<V: Device, G: Told, C: Coins>(floor: &mut Floor<V, G>, worker: &mut Work
     ensures slots { KeepsRecords G.draws floor.old worker.old → SlotsHold G.draws floor.old → SlotsHold G.draws floor.new }
     ensures took { (record_of : ℕ → Item) → KeepsRecords G.draws floor.old worker.old → EachTookItsBlock G.draws record_of floor.old
         → EachTookItsBlock G.draws record_of floor.new }
+    ensures log { Begins floor.old.recorder.log floor.new.recorder.log }
     ensures writes { WritesFailed floor.old.stop floor.old.recorder.log → WritesFailed floor.new.stop floor.new.recorder.log }
     ensures stops { floor.new.stop ≢ None → StopsAfter V.faults G.draws (turns_made floor.old) floor.new }
     ensures queues_before { floor.new.stop ≢ None → QueuesHold G.draws floor.old → QueuesHoldAfter G.draws (turns_made floor.old) floor.new }
@@ -80,6 +82,7 @@ fn step_of<V: Device, G: Told, C: Coins>(
     ensures slots { AllHold G.draws floor.old workers.old → SlotsHold G.draws floor.old → SlotsHold G.draws floor.new }
     ensures took { (record_of : ℕ → Item) → AllHold G.draws floor.old workers.old → EachTookItsBlock G.draws record_of floor.old
         → EachTookItsBlock G.draws record_of floor.new }
+    ensures log { Begins floor.old.recorder.log floor.new.recorder.log }
     ensures writes { WritesFailed floor.old.stop floor.old.recorder.log → WritesFailed floor.new.stop floor.new.recorder.log }
     ensures stops { floor.new.stop ≢ None → StopsAfter V.faults G.draws (turns_made floor.old) floor.new }
     ensures queues_before { floor.new.stop ≢ None → QueuesHold G.draws floor.old → QueuesHoldAfter G.draws (turns_made floor.old) floor.new }
@@ -151,6 +154,7 @@ pub fn replay<V: Device, G: Told, C: Coins>(
     ensures slots { AllHold G.draws floor.old workers.old → QueuesHold G.draws floor.old → SlotsHold G.draws floor.old → SlotsHold G.draws floor.new }
     ensures took { (record_of : ℕ → Item) → AllHold G.draws floor.old workers.old → QueuesHold G.draws floor.old → EachTookItsBlock G.draws record_of floor.old
         → EachTookItsBlock G.draws record_of floor.new }
+    ensures log { Begins floor.old.recorder.log floor.new.recorder.log }
     ensures writes { WritesFailed floor.old.stop floor.old.recorder.log → WritesFailed floor.new.stop floor.new.recorder.log }
     ensures stops { floor.new.stop ≢ None → (before : List ℕ) × StopsAfter V.faults G.draws before floor.new
         × (AllHold G.draws floor.old workers.old → QueuesHold G.draws floor.old → SlotsHold G.draws floor.old

@@ -1,4 +1,4 @@
-use Rattle.std.proofs.Common.{◌≡◌, ◌≢◌, ℕ, ◌+◌, ◌*◌, ◌<◌, ◌≤◌, ◌++◌, ◌∷◌, [], Bool, true, false, List, length, take, get_or, None, refl, ap, sym, ◌∙◌, subst, arith, append_assoc, length-append}
+use Rattle.std.proofs.Common.{◌≡◌, ◌≢◌, ℕ, ◌+◌, ◌*◌, ◌<◌, ◌≤◌, ◌++◌, ◌∷◌, [], Bool, true, false, List, length, take, get_or, None, refl, ap, sym, ◌∙◌, subst, arith, append-nil, append_assoc, length-append}
 use Rattle.std.specs.Option.{option_to_list}
 use Rattle.std.proofs.lemmas.List.{length-take-le}
 use Rattle.esa_laws.proofs.FinishLaws.{length-completed}
@@ -8,6 +8,7 @@ use Rattle.esa_spec.specs.Draws.{Draw}
 use Rattle.esa_spec.specs.Traces.{asked}
 use Rattle.esa_spec.specs.Turns.{next, order}
 use Rattle.esa_spec.specs.Verdicts.{failing, is_finished}
+use Rattle.esa_device.specs.Logs.{Carried}
 use Rattle.esa_floor.specs.Parts.{Parts}
 use Rattle.esa_floor.specs.Standing.{attempt_begun, turns_made}
 use Rattle.esa_floor.specs.declared.floor.Roots.{Roots}
@@ -85,6 +86,28 @@ step_of-requires-clause-room g c =
     let fits = c.requires.room in
     omega (arith, whole, inside, long, made, room, fits)
 
+pub loop-made-init : goal.loop-made-init
+loop-made-init g c = record {
+  stands = c.requires.stands;
+  posts = c.requires.posts;
+  each = refl;
+  hold = λ all queues. all;
+  queues = λ all queues. queues;
+  slots = λ all queues slots. slots;
+  took = λ record_of all queues took. took;
+  log = ([], sym (append-nil c.args.floor.now.recorder.log));
+  writes = λ before. before;
+  stops = λ ran halted. absurd (halted ran);
+  others_hold = λ ran halted. absurd (halted ran);
+  origin = refl;
+  attempt = refl;
+  begun = refl;
+  turns = c.requires.fresh;
+  history = sym (append-nil c.args.floor.now.history);
+  trace = sym (append-nil c.args.floor.now.recorder.trace);
+  unfinished = λ x inside. absurd (omega (arith, inside));
+}
+
 pub loop-made-preserved : goal.loop-made-preserved
 loop-made-preserved g c =
     let at = (goal.at.loop-made-preserved g c).At-loop-made in
@@ -108,6 +131,7 @@ loop-made-preserved g c =
       queues = λ all queues. done.queues (inv.hold all queues) (inv.queues all queues);
       slots = λ all queues slots. done.slots (inv.hold all queues) (inv.slots all queues slots);
       took = λ record_of all queues took. done.took record_of (inv.hold all queues) (inv.took record_of all queues took);
+      log = (inv.log.0 ++ done.log.0, done.log.1 ∙ ap (λ (l : List Carried). l ++ done.log.0) inv.log.1 ∙ append_assoc f.recorder.log inv.log.0 done.log.0);
       writes = λ before. done.writes (inv.writes before);
       stops = λ ran halted. (
         turns_made now,
@@ -179,6 +203,12 @@ pub returns-clause-others_hold : goal.returns-clause-others_hold
 returns-clause-others_hold g c =
     let f = c.args.floor.now in
     c.loop-made.invariant.others_hold (not_stopped g.V.Device.faults g.G.Told.plan g.G.Told.draws f c.requires.stands c.requires.begun c.requires.fresh f.stop refl)
+
+pub returns-then-is_over-clause-log : goal.returns-then-is_over-clause-log
+returns-then-is_over-clause-log g c = c.loop-made.invariant.log
+
+pub returns-clause-log : goal.returns-clause-log
+returns-clause-log g c = c.loop-made.invariant.log
 
 pub returns-then-is_over-clause-writes : goal.returns-then-is_over-clause-writes
 returns-then-is_over-clause-writes g c = c.loop-made.invariant.writes

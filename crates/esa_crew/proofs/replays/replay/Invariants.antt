@@ -1,6 +1,7 @@
 -- So many turns of the completed list were taken, and no fewer finish the attempt.
 use Rattle.std.proofs.Common.{◌≡◌, ◌≢◌, ℕ, ◌<◌, ◌++◌, ◌∷◌, false, List, [], length, take, None}
 use Rattle.esa_spec.specs.Completion.{completed}
+use Rattle.esa_spec.specs.Fronts.{Begins}
 use Rattle.esa_spec.specs.Traces.{spread}
 use Rattle.esa_spec.specs.Verdicts.{is_finished}
 use Rattle.esa_floor.specs.Keeping.{QueuesHold, QueuesHoldAfter, SlotsHold, SlotsHoldAfter, StopsAfter}
@@ -26,6 +27,7 @@ invariant-loop-made g l =
           → SlotsHold g.G.Told.draws l.floor;
       took : (record_of : ℕ → Item) → AllHold g.G.Told.draws l.initial.floor l.initial.workers → QueuesHold g.G.Told.draws l.initial.floor
           → EachTookItsBlock g.G.Told.draws record_of l.initial.floor → EachTookItsBlock g.G.Told.draws record_of l.floor;
+      log : Begins l.initial.floor.recorder.log l.floor.recorder.log;
       writes : WritesFailed l.initial.floor.stop l.initial.floor.recorder.log → WritesFailed l.floor.stop l.floor.recorder.log;
       stops : l.initial.floor.stop ≡ None → l.floor.stop ≢ None → (before : List ℕ) × StopsAfter g.V.Device.faults g.G.Told.draws before l.floor
           × (AllHold g.G.Told.draws l.initial.floor l.initial.workers → QueuesHold g.G.Told.draws l.initial.floor → SlotsHold g.G.Told.draws l.initial.floor

@@ -76,3 +76,6 @@ returns-clause-others_before g c = λ other stopped holds.
 
 pub returns-clause-writes : goal.returns-clause-writes
 returns-clause-writes g c = c.turn.ensures.writes
+
+pub returns-clause-log : goal.returns-clause-log
+returns-clause-log g c = (_, c.turn.ensures.log c.requires.begun c.requires.runs)

@@ -49,3 +49,6 @@ returns-clause-others_before g c = λ stopped all.
 
 pub returns-clause-writes : goal.returns-clause-writes
 returns-clause-writes g c = c.step.ensures.writes
+
+pub returns-clause-log : goal.returns-clause-log
+returns-clause-log g c = c.step.ensures.log
