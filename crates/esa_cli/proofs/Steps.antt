@@ -17,6 +17,7 @@ use Rattle.esa_command.proofs.Composition.{judged_at_once}
 use Rattle.esa_command.proofs.Ending.{ends_stop}
 use Rattle.esa_encoding.specs.Encode.{has_shares, reports_file, encode_steps, encode_asked, encode_keyed, encode_sealed}
 use Rattle.esa_encoding.specs.Generate.{generate_asked}
+use Rattle.esa_gathering.specs.Intake.{intake_input}
 use Rattle.esa_shuffling.specs.Batch.{batch_input, batch_work}
 use Rattle.esa_shuffling.specs.Plan.{plan_steps, plan_asked, plan_turned, plan_drawn}
 use Rattle.esa_shuffling.specs.Shuffle.{sizes_asked, turns_file, coins_file}
@@ -67,7 +68,7 @@ pub steps_well : (crew : Bool) (call : Command × List ℕ) (read : Reads) (work
 steps_well crew (command.Gen, name) read work is = well_then (job_file command.Gen crew name read) (λ job. accepted (generate_asked job)) work (λ job. well_made _ work refl) is
 steps_well crew (command.Encode, name) read work is = encode_well crew name read work is
 steps_well crew (command.Batch, name) read work is = well_then (batch_input crew name read) (λ all. accepted (batch_work all)) work (λ all. well_made _ work refl) is
-steps_well crew (command.Intake, name) read work is = cc
+steps_well crew (command.Intake, name) read work is = well_then (intake_input crew name read) (λ all. accepted (batch_work all)) work (λ all. well_made _ work refl) is
 steps_well crew (command.Shuffle, name) read work is = cc
 steps_well crew (command.Run, name) read work is = cc
 steps_well crew (command.Relay, name) read work is = cc
@@ -84,7 +85,7 @@ pub not_built : (crew : Bool) (call : Command × List ℕ) → is_built call.0 �
 not_built crew (command.Gen, name) is read = cc
 not_built crew (command.Encode, name) is read = cc
 not_built crew (command.Batch, name) is read = cc
-not_built crew (command.Intake, name) is read = refl
+not_built crew (command.Intake, name) is read = cc
 not_built crew (command.Shuffle, name) is read = refl
 not_built crew (command.Run, name) is read = refl
 not_built crew (command.Relay, name) is read = refl
@@ -100,17 +101,17 @@ ends_unbuilt crew call cabinet printer is =
     ends_stop (λ (work : Work). work) (steps_of crew call) cabinet cabinet printer (stop.Refused (NotBuilt call.0)) (status.Refused (NotBuilt call.0)) refl
     (judged_at_once 0 6 (λ (work : Work). work) (steps_of crew call) cabinet (NotBuilt call.0) (omega arith) (not_built crew call is) tt)
 
-pub others_unbuilt : (c : Command) → (c ≡ command.Gen → ⊥) → (c ≡ command.Encode → ⊥) → (c ≡ command.Batch → ⊥) → (c ≡ command.Analyse → ⊥) → (c ≡ command.Histogram → ⊥) → (c ≡ command.Upgrade → ⊥) → (c ≡ command.Recover → ⊥) → (c ≡ command.Plan → ⊥) → is_built c ≡ false
-others_unbuilt command.Gen g e b a h u r p = absurd (g refl)
-others_unbuilt command.Encode g e b a h u r p = absurd (e refl)
-others_unbuilt command.Batch g e b a h u r p = absurd (b refl)
-others_unbuilt command.Intake g e b a h u r p = refl
-others_unbuilt command.Shuffle g e b a h u r p = refl
-others_unbuilt command.Run g e b a h u r p = refl
-others_unbuilt command.Relay g e b a h u r p = refl
-others_unbuilt command.Analyse g e b a h u r p = absurd (a refl)
-others_unbuilt command.Histogram g e b a h u r p = absurd (h refl)
-others_unbuilt command.Upgrade g e b a h u r p = absurd (u refl)
-others_unbuilt command.Recover g e b a h u r p = absurd (r refl)
-others_unbuilt command.Plan g e b a h u r p = absurd (p refl)
-others_unbuilt command.Audit g e b a h u r p = refl
+pub others_unbuilt : (c : Command) → (c ≡ command.Gen → ⊥) → (c ≡ command.Encode → ⊥) → (c ≡ command.Batch → ⊥) → (c ≡ command.Intake → ⊥) → (c ≡ command.Analyse → ⊥) → (c ≡ command.Histogram → ⊥) → (c ≡ command.Upgrade → ⊥) → (c ≡ command.Recover → ⊥) → (c ≡ command.Plan → ⊥) → is_built c ≡ false
+others_unbuilt command.Gen g e b i a h u r p = absurd (g refl)
+others_unbuilt command.Encode g e b i a h u r p = absurd (e refl)
+others_unbuilt command.Batch g e b i a h u r p = absurd (b refl)
+others_unbuilt command.Intake g e b i a h u r p = absurd (i refl)
+others_unbuilt command.Shuffle g e b i a h u r p = refl
+others_unbuilt command.Run g e b i a h u r p = refl
+others_unbuilt command.Relay g e b i a h u r p = refl
+others_unbuilt command.Analyse g e b i a h u r p = absurd (a refl)
+others_unbuilt command.Histogram g e b i a h u r p = absurd (h refl)
+others_unbuilt command.Upgrade g e b i a h u r p = absurd (u refl)
+others_unbuilt command.Recover g e b i a h u r p = absurd (r refl)
+others_unbuilt command.Plan g e b i a h u r p = absurd (p refl)
+others_unbuilt command.Audit g e b i a h u r p = refl

@@ -15,6 +15,7 @@ use Rattle.esa_command.specs.Telling.{status_in, Tells}
 use Rattle.esa_command.specs.Work.{Work}
 use Rattle.esa_encoding.specs.Encode.{encode_steps}
 use Rattle.esa_encoding.specs.Generate.{generate_steps}
+use Rattle.esa_gathering.specs.Intake.{intake_steps}
 use Rattle.esa_shuffling.specs.Batch.{batch_steps}
 use Rattle.esa_shuffling.specs.Plan.{plan_steps}
 use Rattle.esa_analysing.specs.Analyse.{analyse_steps}
@@ -27,6 +28,7 @@ abbrev pub is_built : Command → Bool
 is_built command.Gen = true
 is_built command.Encode = true
 is_built command.Batch = true
+is_built command.Intake = true
 is_built command.Analyse = true
 is_built command.Histogram = true
 is_built command.Upgrade = true
@@ -39,6 +41,7 @@ abbrev pub steps_of : Bool → Command × List ℕ → Reads → Step Work
 steps_of crew_allowed (command.Gen, name) = generate_steps crew_allowed name
 steps_of crew_allowed (command.Encode, name) = encode_steps crew_allowed name
 steps_of crew_allowed (command.Batch, name) = batch_steps crew_allowed name
+steps_of crew_allowed (command.Intake, name) = intake_steps crew_allowed name
 steps_of crew_allowed (command.Analyse, name) = analyse_steps crew_allowed name
 steps_of crew_allowed (command.Histogram, name) = histogram_steps crew_allowed name
 steps_of crew_allowed (command.Upgrade, name) = upgrade_steps crew_allowed name

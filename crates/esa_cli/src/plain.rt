@@ -16,6 +16,7 @@ use crate::call::{Call, call_of};
 use esa_analysing::{analyse, histogram, recover, upgrade};
 use esa_command::tell;
 use esa_encoding::{encode, generate};
+use esa_gathering::intake;
 use esa_job::Command;
 use esa_outside::{Cabinet, Printer};
 use esa_refusal::{End, Refusal, Status};
@@ -38,6 +39,7 @@ fn run<K: Cabinet, P: Printer>(
         Command::Gen => generate(alloc, cabinet, printer, false, call.job),
         Command::Encode => encode(alloc, cabinet, printer, false, call.job),
         Command::Batch => batch(alloc, cabinet, printer, false, call.job),
+        Command::Intake => intake(alloc, cabinet, printer, false, call.job),
         Command::Analyse => analyse(alloc, cabinet, printer, false, call.job),
         Command::Histogram => histogram(alloc, cabinet, printer, false, call.job),
         Command::Upgrade => upgrade(alloc, cabinet, printer, false, call.job),

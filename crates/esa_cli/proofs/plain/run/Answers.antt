@@ -9,4 +9,4 @@ returns-in_default-clause-ends g c =
     let printer = stand g.P.Printer.told g.P.Printer.faults g.P.Printer.heard in
     let other = c.in_default in
     ends_unbuilt false (c.args.call.command, c.args.call.job.now) (cabinet c.args.cabinet.now) (printer c.args.printer.now)
-    (others_unbuilt c.args.call.command other.not-Gen other.not-Encode other.not-Batch other.not-Analyse other.not-Histogram other.not-Upgrade other.not-Recover other.not-Plan)
+    (others_unbuilt c.args.call.command other.not-Gen other.not-Encode other.not-Batch other.not-Intake other.not-Analyse other.not-Histogram other.not-Upgrade other.not-Recover other.not-Plan)

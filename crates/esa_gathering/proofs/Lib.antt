@@ -1,0 +1,4 @@
+mod Lines
+mod Texts
+mod Reading
+mod Inputs
