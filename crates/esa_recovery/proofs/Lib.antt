@@ -7,3 +7,5 @@ pub mod RunLaws
 pub mod TakingLaws
 pub mod RecoveredLaws
 pub mod SumsLaws
+pub mod MergeLaws
+pub mod TallyLaws

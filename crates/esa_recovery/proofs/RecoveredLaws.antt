@@ -1,6 +1,6 @@
 -- The database of what rows mean can stand in a file: its counts are no greater than the sum of all counts.
-use Rattle.std.proofs.Common.{◌≡◌, ℕ, ◌+◌, ◌-◌, ◌^◌, ◌<◌, ◌≤◌, Bool, true, false, cond, List, [], ◌∷◌, length, map, get_or, take, drop, Option, Some, None, Result, Ok, Err, Less, Equal, Greater, nat_cmp, refl, sym, ap, ◌∙◌, subst, arith}
-use Rattle.std.specs.Prelude.{All, IfOk, MatchResult, OnOk, bytes_eq, flat_map, if◌then◌else◌, nat_lt, slice_index, unwrap_or, sum_by}
+use Rattle.std.proofs.Common.{◌≡◌, ℕ, ◌+◌, ◌-◌, ◌^◌, ◌<◌, ◌≤◌, Bool, true, false, cond, List, [], ◌∷◌, length, map, take, drop, Option, Some, None, Result, Ok, Err, Less, Equal, Greater, nat_cmp, refl, sym, ap, ◌∙◌, subst, arith}
+use Rattle.std.specs.Prelude.{All, IfOk, MatchResult, bytes_eq, flat_map, if◌then◌else◌, nat_lt, slice_index, unwrap_or, sum_by}
 use Rattle.std.proofs.Math.Dec.{T}
 use Rattle.std.specs.Option.{IfSome}
 use Rattle.std.specs.declared.cmp.Ordering.{Ordering}
@@ -9,10 +9,10 @@ use Rattle.std.specs.Cmp.Lexicographic.{slice_cmp, nat_list_cmp_total}
 use Rattle.std.specs.FinMap as finite
 use Rattle.std.specs.FinMap.Entries.{put, by_order}
 use Rattle.std.proofs.lemmas.Bool.{and_parts, false≢true}
-use Rattle.std.proofs.lemmas.List.{at_drop_more, length-map}
+use Rattle.std.proofs.lemmas.List.{length-map}
 use Rattle.std.proofs.lemmas.List.FromFn.{length-range_with_len}
 use Rattle.std.proofs.lemmas.List.Elements.{All-cons, All-head, All-nil, All-tail}
-use Rattle.std.proofs.lemmas.List.Sums.{sum_by-cons, sum_by-drop_more, sum_by-le-sum_by, sum_by-take-drop}
+use Rattle.std.proofs.lemmas.List.Sums.{sum_by-cons, sum_by-le-sum_by}
 use Rattle.esa_params.specs.declared.form.Form.{Form}
 use Rattle.esa_params.specs.Sizes.{below}
 use Rattle.esa_shares.specs.Polynomial.{column, combined, recovered}
@@ -221,52 +221,3 @@ IsDatabase-recovered form database is small =
       number = omega (arith, few-summed means database.rows, finite.len-entries (summed means database.rows), is.number);
       unopened = omega (arith, lost-le means database.rows, small);
     }
-
--- a fact that follows from another, where a call is done
-pub on-ok : {T E : Type 0} (result : Result T E) (A B : Type 0) → (A → B) → OnOk result A → OnOk result B
-on-ok (Ok done) A B step fact = step fact
-on-ok (Err error) A B step fact = fact
-
--- what is kept of a sum that grew
-pub entries-added : (value : List ℕ) (count : ℕ) (sums : Sums) (old new : List (List ℕ × ℕ)) → old ≡ finite.entries sums
-    → new ≡ put by_bytes value (unwrap_or (finite.find by_bytes value old) 0 + count) old → new ≡ finite.entries (added (Some value) count sums)
-entries-added value count sums old new is now =
-    now
-    ∙ (λ i. put by_bytes value (unwrap_or (finite.find by_bytes value (is i)) 0 + count) (is i))
-    ∙ ap (λ o. put by_bytes value (unwrap_or o 0 + count) (finite.entries sums)) (sym (finite.get-entries sums value))
-    ∙ sym (finite.entries-insert nat_list_cmp_total sums value (unwrap_or (finite.get sums value) 0 + count))
-
-module _ (means : List ℕ → Option (List ℕ)) (rows : List (List ℕ × ℕ)) (k left : ℕ) (inside : k < length rows) (next : left ≡ k + 1) (small : counts rows < 2 ^ 32) where
-  -- the count of the row before these fits
-  pub sum-fits : (old : List (List ℕ × ℕ)) (q : List ℕ) → old ≡ finite.entries (summed means (drop left rows)) → unwrap_or (finite.find by_bytes q old) 0 + (get_or rows k ([], 0)).1 < 2 ^ 32
-  sum-fits old q is =
-      let here : counts (drop k rows) ≡ (get_or rows k ([], 0)).1 + counts (drop left rows) =
-      sum_by-drop_more (λ (row : List ℕ × ℕ). row.1) rows k ([], 0) inside ∙ ap (λ n. (get_or rows k ([], 0)).1 + counts (drop n rows)) (sym next) in
-      let all = sum_by-take-drop (λ (row : List ℕ × ℕ). row.1) rows k in
-      let less : unwrap_or (finite.find by_bytes q old) 0 ≤ counts (drop left rows) =
-      subst (λ o. unwrap_or o 0 ≤ counts (drop left rows)) (finite.get-entries (summed means (drop left rows)) q ∙ ap (finite.find by_bytes q) (sym is)) (sum-le means (drop left rows) q) in
-      omega (arith, here, all, less, small)
-
-  pub lost-fits : (old : ℕ) → old ≡ sum_by (λ (row : List ℕ × ℕ). lost (means row.0) row.1) (drop left rows) → old + (get_or rows k ([], 0)).1 < 2 ^ 32
-  lost-fits old is =
-      let here : counts (drop k rows) ≡ (get_or rows k ([], 0)).1 + counts (drop left rows) =
-      sum_by-drop_more (λ (row : List ℕ × ℕ). row.1) rows k ([], 0) inside ∙ ap (λ n. (get_or rows k ([], 0)).1 + counts (drop n rows)) (sym next) in
-      let all = sum_by-take-drop (λ (row : List ℕ × ℕ). row.1) rows k in
-      omega (arith, here, all, lost-le means (drop left rows), is, small)
-
-  -- and what it adds
-  pub summed-more : (meant : Option (List ℕ)) (count : ℕ) → meant ≡ means (get_or rows k ([], 0)).0 → count ≡ (get_or rows k ([], 0)).1
-      → added meant count (summed means (drop left rows)) ≡ summed means (drop k rows)
-  summed-more meant count is counted =
-      (λ i. added (is i) (counted i) (summed means (drop (next i) rows)))
-      ∙ sym (at_drop_more (summed means) rows k ([], 0) inside)
-
-  pub lost-more : (meant : Option (List ℕ)) (count old : ℕ) → meant ≡ means (get_or rows k ([], 0)).0 → count ≡ (get_or rows k ([], 0)).1
-      → old ≡ sum_by (λ (row : List ℕ × ℕ). lost (means row.0) row.1) (drop left rows)
-      → old + lost meant count ≡ sum_by (λ (row : List ℕ × ℕ). lost (means row.0) row.1) (drop k rows)
-  lost-more meant count old is counted before =
-      let f : List ℕ × ℕ → ℕ = λ row. lost (means row.0) row.1 in
-      let here : sum_by f (drop k rows) ≡ lost (means (get_or rows k ([], 0)).0) (get_or rows k ([], 0)).1 + sum_by f (drop left rows) =
-      sum_by-drop_more f rows k ([], 0) inside ∙ ap (λ n. lost (means (get_or rows k ([], 0)).0) (get_or rows k ([], 0)).1 + sum_by f (drop n rows)) (sym next) in
-      let same : lost meant count ≡ lost (means (get_or rows k ([], 0)).0) (get_or rows k ([], 0)).1 = (λ i. lost (is i) (counted i)) in
-      omega (arith, here, same, before)

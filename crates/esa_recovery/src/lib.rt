@@ -14,6 +14,7 @@ mod members;
 mod recovered;
 mod refused;
 mod spelled;
+mod sums;
 mod tally;
 #[cfg(test)]
 mod tests;

@@ -7,7 +7,7 @@ ghost use Rattle.esa_params.specs.declared.form.Form.{Form};
 ghost use Rattle.esa_recovery.specs.Recovered.{recovered_database, total};
 ghost use Rattle.esa_recovery.specs.declared.refused.RecoverRefused.TheVariants.{OutOfMemory, Sum};
 
-use crate::meanings::Meanings;
+use crate::groups::groups_of;
 use crate::refused::RecoverRefused;
 use crate::spelled::spelled;
 use crate::tally::tally_of;
@@ -61,8 +61,8 @@ fn recovered_from(alloc: Global, db: &Db) -> Result<Recovered, RecoverRefused>
     ensures { MatchResult result (λ recovered. recovered ≡ record { form = db.now.form; database = recovered_database db.now.database })
         (λ refused. refused ≡ OutOfMemory) }
 {
-    let meanings = Meanings::make(alloc, db)?;
-    let tally = tally_of(alloc, db, &meanings)?;
+    let groups = groups_of(alloc, db)?;
+    let tally = tally_of(alloc, db, &groups)?;
     let bytes = spelled(alloc, db.form(), &tally.sums, db.unopened() + tally.lost)?;
     read(alloc, &bytes)
 }

@@ -4,10 +4,10 @@ ghost use Rattle.std.specs.Prelude.{◌≡◌, ◌≤◌, ◌<◌, ◌^◌, ◌+
 ghost use Rattle.esa_analyser.specs.Rows.{database_bytes, row_bytes};
 ghost use Rattle.esa_recovery.specs.Sums.{plain};
 
+use crate::sums::Sum;
 use esa_analyser::{front, spell_row};
 use esa_params::Form;
 use std::alloc::{AllocError, Global};
-use std::collections::BTreeMap;
 
 /// Puts a row behind the bytes.
 fn put_row(bytes: &mut Vec<u8>, value: &[u8], count: u32) -> Result<(), AllocError>
@@ -23,16 +23,16 @@ fn put_row(bytes: &mut Vec<u8>, value: &[u8], count: u32) -> Result<(), AllocErr
 pub(crate) fn spelled(
     alloc: Global,
     form: Form,
-    sums: &BTreeMap<&[u8], u32>,
+    sums: &[Sum<'_>],
     unopened: u32,
 ) -> Result<Vec<u8>, AllocError>
-    requires short { All (λ row. length row.0 ≤ 190) (plain sums.now.entries) }
-    requires few { length sums.now.entries < 2 ^ 32 }
-    ensures { IfOk result (λ bytes. bytes.items ≡ database_bytes form (record { rows = plain sums.now.entries; unopened = unopened })) }
+    requires short { All (λ row. length row.0 ≤ 190) (plain sums.now) }
+    requires few { length sums.now < 2 ^ 32 }
+    ensures { IfOk result (λ bytes. bytes.items ≡ database_bytes form (record { rows = plain sums.now; unopened = unopened })) }
 {
     let mut bytes = Vec::from_slice(alloc, &front(form, sums.len() as u32, unopened))?;
-    for (value, count) in sums {
-        put_row(&mut bytes, value, *count)?;
+    for sum in sums {
+        put_row(&mut bytes, sum.value, sum.count)?;
     }
     Ok(bytes)
 }
