@@ -1,21 +1,21 @@
 -- The header of a file is in its first fifteen bytes.
-use Rattle.std.proofs.Common.{◌≡◌, ℕ, ◌+◌, ◌-◌, ◌≤◌, Bool, true, false, cond, List, length, take, drop, get_or, Option, Some, Result, Ok, Err, refl, subst, sym, ap, ◌∙◌, arith}
+use Rattle.std.proofs.Common.{◌≡◌, ℕ, ◌+◌, ◌-◌, ◌≤◌, Bool, true, false, cond, List, ◌++◌, length, take, drop, get_or, Result, Ok, Err, refl, subst, sym, ap, ◌∙◌, arith}
 use Rattle.std.specs.Prelude.{nat_lt, nat_eq, ◌==◌, min}
 use Rattle.std.specs.List.{starts_with}
 use Rattle.std.specs.Cmp.Lexicographic.{pointwise}
 use Rattle.std.specs.Int.{w16, w32, from_be_bytes}
-use Rattle.esa_outside.specs.Told.{IsPart}
-use Rattle.std.proofs.lemmas.List.{get_or-take, take-take, drop-take}
+use Rattle.std.proofs.lemmas.List.{get_or-take, take-take, take_at, drop-take}
 use Rattle.esa_bytes.specs.Field.{u16_in, u32_in}
 use Rattle.esa_params.specs.declared.form.Form.{Form}
 use Rattle.esa_params.specs.declared.form.Form.TheVariants.{One, Two}
 use Rattle.esa_header.specs.Version.{form_in}
 use Rattle.esa_header.specs.declared.header.FileKind.{FileKind}
 use Rattle.esa_header.specs.declared.header.FileKind.TheVariants.{Batch, Forward}
+use Rattle.esa_header.specs.declared.header.Header.{Header}
 use Rattle.esa_header.specs.declared.header.HeaderRefused.{HeaderRefused}
 use Rattle.esa_header.specs.declared.header.HeaderRefused.TheVariants.{BadMagic, BadSize}
-use Rattle.esa_header.specs.Header.{cut, magic, record_length, header_length, version_result, form_by_front, header_by_length, header_by_form, header_at, header_in}
-use Rattle.esa_header.proofs.HeaderLaws.{not_below}
+use Rattle.esa_header.specs.Header.{cut, magic, record_length, header_length, version_result, form_by_front, header_by_length, header_by_form, header_at, header_in, file_length}
+use Rattle.esa_header.proofs.HeaderLaws.{not_below, first_passed, then_passed, both_ways}
 
 -- a part that lies inside a front
 part_of_front : (at n k : ℕ) (bytes : List ℕ) → at + n ≤ k → take n (drop at (take k bytes)) ≡ take n (drop at bytes)
@@ -79,8 +79,21 @@ header_in-front kind k have bytes is = by_test (nat_lt have 11) refl
         ap (header_by_form kind (take k bytes) have) (form_front k bytes kind have wide)
         ∙ by_form k bytes kind have (form_by_front kind bytes have) wide (λ form fits. inside k have form is fits)
 
--- so it is read from the first bytes that a told file gives
-pub header_in-read : (kind : FileKind) (have : ℕ) (file : Option (List ℕ)) (bytes part : List ℕ) → file ≡ Some bytes → IsPart file 0 part → length part ≡ min 15 have → header_in kind part have ≡ header_in kind bytes have
-header_in-read kind have file bytes part there read long =
-    let is : IsPart (Some bytes) 0 part = subst (λ f. IsPart f 0 part) there read in
-    ap (λ front. header_in kind front have) is.1 ∙ header_in-front kind (length part) have bytes long
+-- so it is that of the bytes with which the file begins
+pub header_in-append : (kind : FileKind) (have : ℕ) (front rest : List ℕ) → length front ≡ min 15 have → header_in kind (front ++ rest) have ≡ header_in kind front have
+header_in-append kind have front rest long =
+    sym (header_in-front kind (length front) have (front ++ rest) long) ∙ ap (λ bytes. header_in kind bytes have) (take_at front rest (length front) refl)
+
+-- a file with an accepted header is as long as it says
+pub length-accepted : (kind : FileKind) (front : List ℕ) (have : ℕ) (header : Header) → header_in kind front have ≡ Ok header → have ≡ file_length kind header
+length-accepted kind front have header read = by_result (form_by_front kind front have) read
+  where
+    by_result : (r : Result Form HeaderRefused) → header_by_form kind front have r ≡ Ok header → have ≡ file_length kind header
+    by_result (Err refused) rest = cc
+    by_result (Ok form) rest =
+        let whole = first_passed (nat_lt have (header_length form)) _ _ header rest in
+        let size = then_passed (u16_in front 9 == record_length kind form) _ _ header whole.1 in
+        let enough = first_passed (nat_lt have (file_length kind (header_at form front))) _ _ header size.1 in
+        let no_more = first_passed (nat_lt (file_length kind (header_at form front)) have) _ _ header enough.1 in
+        let same : header_at form front ≡ header = cc no_more.1 in
+        subst (λ h. have ≡ file_length kind h) same (both_ways _ _ (not_below _ _ no_more.0) (not_below _ _ enough.0))

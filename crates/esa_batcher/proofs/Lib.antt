@@ -5,6 +5,7 @@ pub mod BatchLaws
 pub mod Held
 pub mod InFileLaws
 pub mod OrderLaws
+pub mod PagingLaws
 pub mod FrontLaws
 pub mod ScanLaws
 pub mod Writing

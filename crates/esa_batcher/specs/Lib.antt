@@ -6,6 +6,7 @@ pub mod InFile
 pub mod Finishing
 pub mod Gathering
 pub mod Inside
+pub mod Paging
 pub mod Reading
 pub mod Refusal
 pub mod Rising
@@ -21,3 +22,4 @@ pub use Rattle.esa_page.specs.Underway
 pub use Rattle.esa_lists.specs.Tally
 pub use Rattle.esa_bytes.specs.Lines
 pub use Rattle.esa_page.specs.Writing
+pub use Rattle.esa_page.specs.Piecewise

@@ -14,6 +14,7 @@ mod file;
 mod laws;
 mod lines;
 mod order;
+mod piece;
 mod read;
 mod refused;
 mod rising;

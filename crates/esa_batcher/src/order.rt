@@ -1,11 +1,33 @@
-//! Whether the records of a batch rise, found through a buffer.
+//! Whether the records of a file rise, found through a buffer that each of them passes once.
 
-ghost use Rattle.std.specs.Prelude.{◌≡◌, ◌*◌, ◌+◌, ◌≤◌, ◌<◌, ◌^◌, ℕ, List, Some, IfOk, length, take, drop, min};
+ghost use Rattle.std.specs.Prelude.{◌≡◌, ◌*◌, ◌+◌, ◌-◌, ◌≤◌, ◌<◌, ◌^◌, length, take, min};
 ghost use Rattle.esa_outside.specs.Cause.{HasCause};
-ghost use Rattle.esa_batcher.specs.Rising.{fall_at};
+ghost use Rattle.esa_outside.specs.Told.{Lacks};
+ghost use Rattle.esa_batcher.specs.Paging.{PartHeard, RecordsHeard};
 
+use crate::piece::{keep, read_piece};
 use crate::rising::first_fall;
-use esa_outside::{Failed, Records};
+use esa_outside::{Cabinet, Failed};
+
+/// Some of the records of a file: so many of a size, from the place `first` on. The buffer begins with
+/// their first bytes, which were kept.
+#[derive(Clone, Copy)]
+struct Part {
+    first: u32,
+    number: u32,
+    size: usize,
+    kept: usize,
+}
+
+/// All records of a file, one behind another. The buffer begins with their first bytes, and what is
+/// behind those starts at the place `at` of the file.
+#[derive(Clone, Copy)]
+pub(crate) struct FileRecords {
+    pub(crate) at: u64,
+    pub(crate) kept: usize,
+    pub(crate) size: usize,
+    pub(crate) count: u32,
+}
 
 /// The number of records that there is room for, and that are left.
 fn lesser(room: usize, left: u32) -> u32
@@ -18,53 +40,68 @@ fn lesser(room: usize, left: u32) -> u32
     }
 }
 
-/// The first place of a part of the records whose record is below the one before it.
-fn part_fall<R: Records>(
-    batch: &mut R,
-    first: u32,
-    number: u32,
+/// The first place of a part of the records whose record is below the one before it. The buffer keeps
+/// the last of them.
+fn part_fall<K: Cabinet>(
+    cabinet: &mut K,
+    name: &str,
+    at: u64,
+    part: &Part,
     buffer: &mut [u8],
 ) -> Result<Option<u32>, Failed>
-    requires within { first + number ≤ R.count batch.old }
-    requires told { (records : List (List ℕ)) → R.told batch.old ≡ Some records → first + number ≤ length records }
-    requires few { first + number < 2 ^ 32 }
-    requires room { number * R.size batch.old ≤ length buffer.old }
-    ensures order { (records : List (List ℕ)) → R.told batch.old ≡ Some records
-        → IfOk result (λ fall. fall ≡ fall_at first (take number (drop first records))) }
-    ensures told { R.told batch.new ≡ R.told batch.old }
-    ensures grounds { R.grounds batch.new ≡ R.grounds batch.old }
-    ensures count { R.count batch.new ≡ R.count batch.old }
-    ensures size { R.size batch.new ≡ R.size batch.old }
+    requires some { 0 < part.now.number }
+    requires few { part.now.first + part.now.number < 2 ^ 32 }
+    requires kept { part.now.kept ≤ part.now.size }
+    requires room { part.now.number * part.now.size ≤ length buffer.old }
+    requires whole { Lacks (K.told cabinet.old) name.now (at + (part.now.number * part.now.size - part.now.kept)) → ⊥ }
+    ensures part { PartHeard name.now (K.told cabinet.old) at (K.heard cabinet.old) (K.heard cabinet.new) part.now.size part.now.first part.now.number (take part.now.kept buffer.old) buffer.new result }
+    ensures told { K.told cabinet.new ≡ K.told cabinet.old }
     ensures buffer { length buffer.new ≡ length buffer.old }
-    ensures cause { HasCause (R.faults batch.old) (R.faults batch.new) ⊥ result }
+    ensures cause { HasCause (K.faults cabinet.old) (K.faults cabinet.new) ⊥ result }
 {
-    batch.told_as_counted();
-    let size = batch.size() as usize;
-    let (part, _) = buffer.split_at_mut(number as usize * size);
-    batch.records(first, part)?;
-    Ok(first_fall(part, size, number, first))
+    let end = part.number as usize * part.size;
+    read_piece(cabinet, name, at, buffer, part.kept, end)?;
+    let fall = first_fall(&buffer[..end], part.size, part.number, part.first);
+    keep(buffer, end - part.size, end);
+    Ok(fall)
 }
 
-/// The first place whose record is below the one before it. The buffer holds two records or more.
-pub(crate) fn scan_order<R: Records>(
-    batch: &mut R,
+/// The first place whose record is below the one before it. The buffer has room for two records or more.
+pub(crate) fn scan_order<K: Cabinet>(
+    cabinet: &mut K,
+    name: &str,
+    records: &FileRecords,
     buffer: &mut [u8],
 ) -> Result<Option<u32>, Failed>
-    requires size { 0 < R.size batch.old }
-    requires room { 2 * R.size batch.old ≤ length buffer.old }
-    ensures order { (records : List (List ℕ)) → R.told batch.old ≡ Some records → IfOk result (λ fall. fall ≡ fall_at 0 records) }
-    ensures grounds { R.grounds batch.new ≡ R.grounds batch.old }
-    ensures cause { HasCause (R.faults batch.old) (R.faults batch.new) ⊥ result }
+    requires size { 0 < records.now.size }
+    requires kept { records.now.kept ≤ records.now.size }
+    requires within { records.now.kept ≤ records.now.count * records.now.size }
+    requires room { 2 * records.now.size ≤ length buffer.old }
+    requires few { records.now.at + records.now.count * records.now.size < 2 ^ 64 }
+    requires whole { Lacks (K.told cabinet.old) name.now (records.now.at + (records.now.count * records.now.size - records.now.kept)) → ⊥ }
+    ensures records { RecordsHeard name.now (K.told cabinet.old) records.now.at (K.heard cabinet.old) (K.heard cabinet.new) records.now.size records.now.count (take records.now.kept buffer.old) result }
+    ensures told { K.told cabinet.new ≡ K.told cabinet.old }
+    ensures cause { HasCause (K.faults cabinet.old) (K.faults cabinet.new) ⊥ result }
 {
-    batch.told_as_counted();
-    let count = batch.count();
-    let room = buffer.len() / batch.size() as usize;
+    let room = buffer.len() / records.size;
     let mut first = 0;
-    while first + 1 < count {
-        let number = lesser(room, count - first);
-        match part_fall(batch, first, number, buffer)? {
+    let mut at = records.at;
+    let mut kept = records.kept;
+    while first + 1 < records.count {
+        let number = lesser(room, records.count - first);
+        let part = Part {
+            first,
+            number,
+            size: records.size,
+            kept,
+        };
+        match part_fall(cabinet, name, at, &part, buffer)? {
             Some(fall) => return Ok(Some(fall)),
-            None => first += number - 1,
+            None => {
+                at += (number as usize * records.size - kept) as u64;
+                first += number - 1;
+                kept = records.size;
+            }
         }
     }
     Ok(None)

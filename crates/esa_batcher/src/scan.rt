@@ -1,22 +1,19 @@
 //! Checking a batch file through a buffer of fixed size.
 
-ghost use Rattle.std.specs.Prelude.{◌≡◌, ◌⊎◌, ◌*◌, ◌+◌, ◌≤◌, ◌<◌, ℕ, List, Some, None, Option, Ok, Err, IfOk, length, min};
+ghost use Rattle.std.specs.Prelude.{◌≡◌, ◌⊎◌, ◌*◌, ◌+◌, ◌≤◌, ℕ, List, Some, None, Err, IfOk, length};
 ghost use Rattle.std.specs.FinMap as map;
 ghost use Rattle.esa_lists.specs.Files.{Files};
 ghost use Rattle.esa_params.specs.Form.{envelope_length};
-ghost use Rattle.esa_header.specs.Header.{header_length, header_in};
-ghost use Rattle.esa_header.specs.declared.header.FileKind.TheVariants.{Batch};
-ghost use Rattle.esa_outside.specs.Cause.{HasCause};
+ghost use Rattle.esa_header.specs.Header.{header_length};
 ghost use Rattle.esa_outside.specs.Told.{Lacks};
 ghost use Rattle.esa_batcher.specs.declared.refused.BatchRefused.TheVariants.{OutOfMemory};
 ghost use Rattle.esa_batcher.specs.declared.scan.ScanRefused.TheVariants as refusal;
-ghost use Rattle.esa_batcher.specs.InFile.{records_of};
+ghost use Rattle.esa_batcher.specs.Paging.{HeaderHeard, FileHeard};
 ghost use Rattle.esa_batcher.specs.Refusal.{refusal_of};
-ghost use Rattle.esa_batcher.specs.Rising.{fall_at};
-ghost use Rattle.esa_batcher.specs.Scanning.{HeaderScanned, scan_in, ScanCounted};
+ghost use Rattle.esa_batcher.specs.Scanning.{scan_in, ScanCounted, ScanHeard};
 
-use crate::file::BatchFile;
-use crate::order::scan_order;
+use crate::order::{FileRecords, scan_order};
+use crate::piece::{keep, read_piece};
 use crate::read::check_number;
 use crate::refused::BatchRefused;
 use esa_header::{FileKind, Header, HeaderRefused, header_length, read_header};
@@ -78,55 +75,69 @@ impl From<HeaderRefused> for ScanRefused {
     }
 }
 
-/// The header of a file of `have` bytes.
+/// The header of a file of `have` bytes. What was read behind it is kept at the buffer's front.
 fn scan_header<K: Cabinet>(
     cabinet: &mut K,
     name: &str,
     have: u64,
     buffer: &mut [u8],
 ) -> Result<Header, ScanRefused>
-    requires { 15 ≤ length buffer.old }
-    ensures header { (files : Files) (bytes : List ℕ) → K.told cabinet.old ≡ Some files → map.get files name.now ≡ Some bytes → have ≡ length bytes
-        → HeaderScanned (header_in Batch bytes have) result }
+    requires room { 15 ≤ length buffer.old }
+    requires whole { Lacks (K.told cabinet.old) name.now have → ⊥ }
+    ensures header { HeaderHeard name.now (K.told cabinet.old) have (K.heard cabinet.old) (K.heard cabinet.new) buffer.new result }
+    ensures length { IfOk result (λ header. have ≡ header_length header.form + envelope_length header.form * header.count) }
     ensures told { K.told cabinet.new ≡ K.told cabinet.old }
-    ensures cause { ScanCounted (K.faults cabinet.old) (K.faults cabinet.new) (Lacks (K.told cabinet.old) name.now (min 15 have)) result }
-    ensures length { IfOk result (λ header. header_length header.form + header.count * envelope_length header.form ≤ have) }
+    ensures cause { ScanCounted (K.faults cabinet.old) (K.faults cabinet.new) ⊥ result }
     ensures buffer { length buffer.new ≡ length buffer.old }
     ensures memory { result ≡ Err (refusal.Grammar OutOfMemory) → ⊥ }
 {
-    let (part, _) = buffer.split_at_mut(have.min(15) as usize);
-    cabinet.read_at(name, 0, part)?;
-    Ok(read_header(FileKind::Batch, part, have)?)
+    let end = have.min(15) as usize;
+    read_piece(cabinet, name, 0, buffer, 0, end)?;
+    let header = read_header(FileKind::Batch, &buffer[..end], have)?;
+    keep(buffer, header.length(), end);
+    Ok(header)
 }
 
-/// The first place whose record is below the one before it, in a file of so many records of the form.
-fn scan_records<K: Cabinet>(
+/// Checks a batch file of `have` bytes, of at least `m` records.
+fn scan_file<K: Cabinet>(
     cabinet: &mut K,
     name: &str,
-    form: Form,
-    count: u32,
+    m: u32,
+    have: u64,
     buffer: &mut [u8],
-) -> Result<Option<u32>, Failed>
-    requires whole { Lacks (K.told cabinet.old) name.now (header_length form + count * envelope_length form) → ⊥ }
+) -> Result<Scanned, ScanRefused>
     requires room { 608 ≤ length buffer.old }
-    ensures order { (records : List (List ℕ)) → records_of (K.told cabinet.old) name.now (header_length form) (envelope_length form) count ≡ Some records
-        → IfOk result (λ fall. fall ≡ fall_at 0 records) }
+    requires few { have ≤ 134217728 }
+    requires whole { Lacks (K.told cabinet.old) name.now have → ⊥ }
+    ensures file { FileHeard m name.now (K.told cabinet.old) have (K.heard cabinet.old) (K.heard cabinet.new) result }
+    ensures length { IfOk result (λ scanned. have ≡ header_length scanned.form + envelope_length scanned.form * scanned.count) }
     ensures told { K.told cabinet.new ≡ K.told cabinet.old }
-    ensures cause { HasCause (K.faults cabinet.old) (K.faults cabinet.new) ⊥ result }
+    ensures cause { ScanCounted (K.faults cabinet.old) (K.faults cabinet.new) ⊥ result }
+    ensures memory { result ≡ Err (refusal.Grammar OutOfMemory) → ⊥ }
 {
-    let mut batch = BatchFile {
-        cabinet,
-        name,
-        start: header_length(form),
-        size: form.envelope(),
-        count,
+    let header = scan_header(cabinet, name, have, buffer)?;
+    let at = have.min(15);
+    let records = FileRecords {
+        at,
+        kept: at as usize - header.length(),
+        size: header.form.envelope() as usize,
+        count: header.count,
     };
-    scan_order(&mut batch, buffer)
+    match scan_order(cabinet, name, &records, buffer)? {
+        Some(place) => return Err(ScanRefused::Grammar(BatchRefused::Unsorted(place))),
+        None => check_number(header.count, m)?,
+    }
+    Ok(Scanned {
+        form: header.form,
+        epoch: header.epoch,
+        count: header.count,
+    })
 }
 
 /// Checks a batch file of at least `m` records from its front to its end, through a buffer. It takes no memory.
 ///
-/// It accepts and refuses as `read_batch` does a file of at most 134,217,728 bytes.
+/// It accepts and refuses as `read_batch` does a file of at most 134,217,728 bytes. Each byte of the file is read once at
+/// most, in pieces one behind another from its start on.
 pub fn scan_batch<K: Cabinet>(
     cabinet: &mut K,
     name: &str,
@@ -139,6 +150,9 @@ pub fn scan_batch<K: Cabinet>(
 
     ensures missing { (files : Files) → K.told cabinet.old ≡ Some files → map.get files name.now ≡ None → result ≡ Err refusal.Failed }
 
+    // Also where the cabinet tells nothing, the answer is by what it gave in this call.
+    ensures heard { ScanHeard m name.now (K.told cabinet.old) (K.heard cabinet.old) (K.heard cabinet.new) result }
+
     // Where it is accepted, its records lie inside the file.
     ensures whole { IfOk result (λ scanned. Lacks (K.told cabinet.old) name.now (header_length scanned.form + scanned.count * envelope_length scanned.form) → ⊥) }
     ensures memory { result ≡ Err (refusal.Grammar OutOfMemory) → ⊥ }
@@ -149,14 +163,5 @@ pub fn scan_batch<K: Cabinet>(
     if have > MOST_RECORD_BYTES {
         return Err(ScanRefused::TooLarge { length: have });
     }
-    let header = scan_header(cabinet, name, have, buffer)?;
-    match scan_records(cabinet, name, header.form, header.count, buffer)? {
-        Some(place) => return Err(ScanRefused::Grammar(BatchRefused::Unsorted(place))),
-        None => check_number(header.count, m)?,
-    }
-    Ok(Scanned {
-        form: header.form,
-        epoch: header.epoch,
-        count: header.count,
-    })
+    scan_file(cabinet, name, m, have, buffer)
 }

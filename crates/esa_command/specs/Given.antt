@@ -2,6 +2,7 @@
 use Rattle.std.specs.Prelude.{◌≡◌, ℕ, ◌+◌, ◌≤◌, List, [], ◌∷◌, ◌++◌, length, Option, Some}
 use Rattle.std.specs.List.{concat}
 use Rattle.esa_outside.specs.Heard.{Event, length_of, part_of}
+use Rattle.esa_page.specs.Piecewise.{pieces_heard}
 use Rattle.esa_refusal.specs.declared.source.Source.{Source}
 use Rattle.esa_refusal.specs.Source.{place_of}
 use Rattle.esa_command.specs.Step.{Reads}
@@ -19,11 +20,6 @@ pub record Given : Type 0 where
   pub source : Source
   pub name : List ℕ
   pub gave : Gave
-
--- pieces that are given one behind another, from a place on
-abbrev pub pieces_heard : List ℕ → ℕ → List (List ℕ) → List Event
-pieces_heard name at [] = []
-pieces_heard name at (piece ∷ pieces) = part_of name at piece ∷ pieces_heard name (at + length piece) pieces
 
 -- what is heard of a file, call by call
 abbrev pub heard_of : List ℕ → Gave → List Event

@@ -1,3 +1,4 @@
+pub mod Piecewise
 pub mod Underway
 pub mod Writing
 pub use Rattle.esa_outside.specs.Heard

@@ -2,7 +2,7 @@
 //!
 //! Bytes wait in the page until it is full, and go to the file's end together. So a file of any length is
 //! written in few calls, and without memory. What a failed call leaves is a front of the whole file. The
-//! crate stands on `esa_outside`.
+//! crate also has the words for a file that is read in pieces. It stands on `esa_outside`.
 #![tactic(auto)]
 
 mod page;

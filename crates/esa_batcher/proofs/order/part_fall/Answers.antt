@@ -1,11 +1,14 @@
-use Rattle.std.proofs.Common.{◌≡◌, ◌*◌, length, ap, sym, subst, ◌∙◌}
-use Rattle.std.specs.Prelude.{All}
-use Rattle.esa_batcher.proofs.OrderLaws.{part_order}
+use Rattle.std.proofs.Common.{◌*◌, ◌≤◌, length, refl, arith}
+use Rattle.esa_batcher.proofs.PagingLaws.{part_scanned}
 use Rattle.esa_batcher.proofs.order.part_fall.Goals as goal
 
-pub returns-clause-order : goal.returns-clause-order
-returns-clause-order g c = λ records told.
-    let number = c.args.number in
-    let long : length c.split_at_mut-part.result.0.now ≡ number * g.R.Records.size c.args.batch.now = c.split_at_mut-part.ensures.front_len ∙ ap (λ n. number * n) c.size-size.ensures in
-    part_order c.size-size.result c.args.first number records _ _ (subst (λ n. All (λ bytes. length bytes ≡ n) records) (sym c.size-size.ensures) (c.told_as_counted.ensures.length records told)) (c.requires.told records told)
-    (c.in_ok-records.ensures.records records number told long c.requires.within) c.first_fall.ensures
+pub returns-clause-part : goal.returns-clause-part
+returns-clause-part g c =
+    let part = c.args.part.now in
+    let end = part.number * part.size in
+    let read = c.read_piece.new.buffer in
+    let room : end ≤ length read = omega (arith, c.requires.room, c.read_piece.ensures.length) in
+    part_scanned c.args.name.now (g.K.Cabinet.told c.args.cabinet.now) c.args.at (g.K.Cabinet.heard c.args.cabinet.now) (g.K.Cabinet.heard c.read_piece.new.cabinet)
+    part.size part.first part.number part.kept end c.args.buffer.now read c.keep.new.buffer c.requires.some c.requires.kept refl room
+    c.in_ok-read_piece.ensures.piece c.read_piece.ensures.front c.first_fall-fall.result
+    c.first_fall-fall.ensures c.keep.ensures.kept

@@ -1,18 +1,17 @@
-use Rattle.std.proofs.Common.{◌≡◌, ◌-◌, ◌≤◌, ℕ, List, Some, length, drop}
-use Rattle.esa_batcher.specs.Rising.{fall_at}
+use Rattle.std.proofs.Common.{◌≡◌, ◌+◌, ◌-◌, ◌*◌, ◌≤◌, length, take}
+use Rattle.esa_batcher.specs.Paging.{HasPassed}
 use Rattle.esa_batcher.proofs.order.scan_order.Given as goal
 
 abbrev pub invariant-loop-first : goal.invariant-loop-first
 invariant-loop-first g l = record {
-  within : l.first ≤ l.count - 1;
-  told : g.R.Records.told l.batch ≡ g.R.Records.told l.fn.batch;
-  grounds : g.R.Records.grounds l.batch ≡ g.R.Records.grounds l.fn.batch;
-  count : g.R.Records.count l.batch ≡ l.count;
-  size : g.R.Records.size l.batch ≡ g.R.Records.size l.fn.batch;
-  faults : g.R.Records.faults l.batch ≡ g.R.Records.faults l.fn.batch;
+  within : l.first ≤ l.records.count - 1;
+  kept : l.kept ≤ l.records.size;
+  place : l.at + l.records.kept ≡ l.records.at + l.first * l.records.size + l.kept;
+  told : g.K.Cabinet.told l.cabinet ≡ g.K.Cabinet.told l.fn.cabinet;
+  faults : g.K.Cabinet.faults l.cabinet ≡ g.K.Cabinet.faults l.fn.cabinet;
   buffer : length l.buffer ≡ length l.fn.buffer;
-  order : (records : List (List ℕ)) → g.R.Records.told l.fn.batch ≡ Some records → fall_at 0 records ≡ fall_at l.first (drop l.first records);
+  passed : HasPassed l.name (g.K.Cabinet.told l.fn.cabinet) l.records.at (g.K.Cabinet.heard l.fn.cabinet) (g.K.Cabinet.heard l.cabinet) l.records.size l.records.count (take l.records.kept l.fn.buffer) l.first l.at l.kept l.buffer;
 }
 
 abbrev pub decreases-loop-first : goal.decreases-loop-first
-decreases-loop-first g l = l.count - l.first
+decreases-loop-first g l = l.records.count - l.first

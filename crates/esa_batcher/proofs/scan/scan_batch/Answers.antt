@@ -1,23 +1,22 @@
-use Rattle.std.proofs.Common.{inr, arith, sym, ◌∙◌}
-use Rattle.std.proofs.lemmas.Result.{err_from_is_err_and}
-use Rattle.esa_params.specs.Form.{envelope_length}
-use Rattle.esa_header.specs.Header.{header_length}
-use Rattle.esa_batcher.proofs.ScanLaws.{have_of, records_are, scan_by_number, scanned_count}
+use Rattle.std.proofs.Common.{Option, arith, subst, ◌∙◌}
+use Rattle.esa_lists.specs.Files.{Files}
+use Rattle.esa_batcher.specs.Paging.{FileHeard}
+use Rattle.esa_batcher.proofs.ScanLaws.{have_of, file_told, file_heard, large_heard}
 use Rattle.esa_batcher.proofs.scan.scan_batch.Goals as goal
 
-pub returns-in_err-check_number-in-None-clause-scanned : goal.returns-in_err-check_number-in-None-clause-scanned
-returns-in_err-check_number-in-None-clause-scanned g c = λ files bytes told there.
-    let p = err_from_is_err_and c.from_residual-in_err-check_number-in-None.result c.from_residual-in_err-check_number-in-None.ensures.1 in
-    let header = c.in_ok-header.header in
-    let have_is = have_of _ bytes c.in_ok-have.have there (c.in_ok-have.ensures.length files told) in
-    let read = c.in_ok-header.ensures.header files bytes (c.length.ensures.told ∙ told) there have_is in
-    let rise = sym c.in-None.is ∙ c.in_ok-place.ensures.order _ (records_are (g.K.Cabinet.told c.scan_header.new.cabinet) files c.args.name.now bytes (header_length header.form) (envelope_length header.form) header.count (c.scan_header.ensures.told ∙ c.length.ensures.told ∙ told) there) in
-    rw (p.1, p.2) (inr (sym (scan_by_number c.args.m c.in_ok-have.have bytes header have_is (omega (arith, c.if-have-gt-MOST_RECORD_BYTES.false)) read rise _ c.in_err-check_number-in-None.ensures)))
+pub returns-then-have-gt-MOST_RECORD_BYTES-clause-heard : goal.returns-then-have-gt-MOST_RECORD_BYTES-clause-heard
+returns-then-have-gt-MOST_RECORD_BYTES-clause-heard g c =
+    large_heard c.args.m c.args.name.now (g.K.Cabinet.told c.args.cabinet.now) c.in_ok-have.have (g.K.Cabinet.heard c.args.cabinet.now) (g.K.Cabinet.heard c.length.new.self) c.in_ok-have.ensures.heard (omega (arith, c.if-have-gt-MOST_RECORD_BYTES.true)) c.in_ok-have.ensures.length
 
 pub returns-clause-scanned : goal.returns-clause-scanned
 returns-clause-scanned g c = λ files bytes told there.
-    let header = c.in_ok-header.header in
-    let have_is = have_of _ bytes c.in_ok-have.have there (c.in_ok-have.ensures.length files told) in
-    let read = c.in_ok-header.ensures.header files bytes (c.length.ensures.told ∙ told) there have_is in
-    let rise = sym c.in-None.is ∙ c.in_ok-place.ensures.order _ (records_are (g.K.Cabinet.told c.scan_header.new.cabinet) files c.args.name.now bytes (header_length header.form) (envelope_length header.form) header.count (c.scan_header.ensures.told ∙ c.length.ensures.told ∙ told) there) in
-    inr (sym (scan_by_number c.args.m c.in_ok-have.have bytes header have_is (omega (arith, c.if-have-gt-MOST_RECORD_BYTES.false)) read rise _ c.in_ok-check_number-in-None.ensures ∙ scanned_count bytes header))
+    file_told c.args.m c.args.name.now (g.K.Cabinet.told c.length.new.self) c.in_ok-have.have (g.K.Cabinet.heard c.length.new.self) (g.K.Cabinet.heard c.scan_file.new.cabinet) c.scan_file.result c.scan_file.ensures.file
+    files bytes (c.length.ensures.told ∙ told) there (have_of _ bytes c.in_ok-have.have there (c.in_ok-have.ensures.length files told))
+
+pub returns-clause-heard : goal.returns-clause-heard
+returns-clause-heard g c =
+    let told = g.K.Cabinet.told c.args.cabinet.now in
+    let middle = g.K.Cabinet.heard c.length.new.self in
+    let now = g.K.Cabinet.heard c.scan_file.new.cabinet in
+    let file = subst (λ (t : Option Files). FileHeard c.args.m c.args.name.now t c.in_ok-have.have middle now c.scan_file.result) c.length.ensures.told c.scan_file.ensures.file in
+    file_heard c.args.m c.args.name.now told c.in_ok-have.have (g.K.Cabinet.heard c.args.cabinet.now) middle c.in_ok-have.ensures.heard now c.scan_file.result file c.in_ok-have.ensures.length
