@@ -1,6 +1,8 @@
 mod BatchSteps
 mod Fitting
 mod Needed
+mod RanEnds
+mod Rooms
 mod RunEnds
 mod ScanEnds
 mod SentLaws

@@ -19,7 +19,7 @@ use Rattle.esa_running.specs.Counting.{HasCounted}
 use Rattle.esa_running.specs.Run.{Asked}
 use Rattle.esa_running.specs.RunOwes.{sizes_in, turns_in, block_keys, inner_keys, fault_status, records_owed, HasRun, HasEnded}
 use Rattle.esa_running.specs.RunWork.{run_writes, run_text, well_work}
-use Rattle.esa_running.specs.Shuffled.{IsShuffled, seen_of}
+use Rattle.esa_shuffle.specs.Runs.{IsShuffled, seen_of}
 use Rattle.esa_running.proofs.Fitting.{attempts_of_front, number_of_front}
 use Rattle.esa_running.proofs.Shuffled.{shuffled_succeeds, EndsAt, shuffled_fails, front_at, front_of_success}
 

@@ -20,7 +20,7 @@ use Rattle.esa_vault.specs.Seals.{opens}
 use Rattle.esa_vault.specs.Traffic.{ReadAnswer}
 use Rattle.esa_vault.specs.declared.fault.VaultFault.{VaultFault}
 use Rattle.esa_vault.specs.declared.fault.VaultFault.TheVariants.{Device, Tampered}
-use Rattle.esa_running.specs.Shuffled.{IsShuffled, seen_of}
+use Rattle.esa_shuffle.specs.Runs.{IsShuffled, seen_of}
 use Rattle.esa_running.proofs.ScanEnds.{scanned_whole, scan_fails, scan_tampered}
 
 module _ {V : Type 0} (told : V → Option (List (List ℕ))) (faults : V → ℕ) (p : Sizes) (ds : ℕ → Draw) (hs : List (List ℕ)) (device batch now : ℕ) (history : List ℕ) (a : ℕ) (old new : Recorded V)

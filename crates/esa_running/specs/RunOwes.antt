@@ -20,12 +20,11 @@ use Rattle.esa_refusal.specs.Failures.{verdicts_of}
 use Rattle.esa_refusal.specs.declared.status.Status.{Status}
 use Rattle.esa_vault.specs.declared.fault.VaultFault.{VaultFault}
 use Rattle.esa_vault.specs.declared.fault.VaultFault.TheVariants as fault
-use Rattle.esa_vault.specs.Seals.{opens}
 use Rattle.esa_command.specs.Asked.{number_of}
 use Rattle.esa_command.specs.Doing.{failed_work}
 use Rattle.esa_command.specs.Stand.{Stand}
 use Rattle.esa_command.specs.Work.{Write, Work}
-use Rattle.esa_running.specs.Shuffled.{seen_of}
+use Rattle.esa_shuffle.specs.Runs.{opens_last, seen_of}
 use Rattle.esa_running.specs.Counting.{HasCounted}
 use Rattle.esa_running.specs.Run.{Asked, sizes_with}
 use Rattle.esa_running.specs.RunWork.{record_writes, run_writes, run_text, well_work}
@@ -87,8 +86,7 @@ pub record HasFailedAt (asked : Asked) (seen : Seen) (work : Work) : Type 0 wher
 -- the block that was read last, of the slot of this number, doesn't open
 pub record IsTamperedAt (asked : Asked) (seen : Seen) (last : List ℕ) (work : Work) : Type 0 where
   pub number : ℕ
-  pub ends : BlockIsTampered (sizes_in asked) asked.draws (turns_in asked) seen
-      (λ slot attempt count. opens (sizes_in asked) (block_keys asked) slot attempt count last) number
+  pub ends : BlockIsTampered (sizes_in asked) asked.draws (turns_in asked) seen (opens_last (sizes_in asked) (block_keys asked) last) number
   pub owed : work ≡ failed_work (status.Tampered number) (records_owed asked seen)
 
 -- the batch couldn't be read a second time, in the load

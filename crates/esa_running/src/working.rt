@@ -12,7 +12,7 @@ ghost use Rattle.esa_shuffling.specs.Drawn.{draws_of};
 ghost use Rattle.esa_running.specs.Run.{sizes_with};
 ghost use Rattle.esa_running.specs.RunOwes.{HasEnded, block_keys, outer_keys, inner_keys, fault_status, turns_in};
 ghost use Rattle.esa_running.specs.RunTaken.{run_taken};
-ghost use Rattle.esa_running.specs.Shuffled.{IsShuffled, seen_of};
+ghost use Rattle.esa_shuffle.specs.Runs.{IsShuffled, seen_of};
 
 use crate::counting::count_output;
 use crate::input::RunInput;
