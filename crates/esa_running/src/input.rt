@@ -56,7 +56,7 @@ pub fn take_run<K: Cabinet>(
     let keys = take_keys(alloc, cabinet, command, false, &job)?;
     let drops = take_drops(alloc, cabinet, command, &job)?;
     let turns = take_turns(alloc, cabinet, command, &job)?;
-    let batch = take_batch(alloc, cabinet, command, &job)?;
+    let batch = take_batch(cabinet, command, &job)?;
     let coins = take_coins(alloc, cabinet, command, &job, plan_with(&job, &batch))?;
     Ok(RunInput {
         job,

@@ -6,15 +6,18 @@ ghost use Rattle.esa_refusal.specs.declared.stop.Stop.TheVariants.{Refused};
 ghost use Rattle.esa_command.specs.Judged.{Judged};
 ghost use Rattle.esa_command.specs.Stand.{stand};
 ghost use Rattle.esa_command.specs.Taking.{name_of};
-ghost use Rattle.esa_running.specs.Run.{IsInside, header_of, sizes_with, drops_refusal, drops_file, batch_file};
+ghost use Rattle.esa_running.specs.Run.{Shuffles, IsInside, sizes_with, drops_refusal, drops_file, batch_file};
 
-use esa_batcher::{Batch, Scanned, read_batch};
+use esa_batcher::{ScanRefused, Scanned, scan_batch};
 use esa_command::read_file;
 use esa_job::{Command, Drops, DropsRefused, Job, JobField};
-use esa_outside::Cabinet;
+use esa_outside::{Cabinet, Role};
 use esa_params::Plan;
 use esa_refusal::{Refusal, Source, Stop};
 use std::alloc::Global;
+
+/// The bytes of the buffer through which a batch is tested.
+const BUFFER: usize = 16384;
 
 /// The plan of the shuffle of a batch, by the parameters of a job.
 pub(crate) fn plan_with(job: &Job, batch: &Scanned) -> Plan
@@ -57,24 +60,13 @@ pub(crate) fn take_drops<K: Cabinet>(
     }
 }
 
-/// What the header of a batch says.
-fn header_of(batch: &Batch) -> Scanned
-    ensures { result ≡ header_of batch.now }
-{
-    Scanned {
-        form: batch.form(),
-        epoch: batch.epoch(),
-        count: batch.count(),
-    }
-}
-
-/// Tests the batch of a job from its front to its end, and keeps what its header says.
+/// Tests the batch of a job from its front to its end. It takes no memory.
 pub(crate) fn take_batch<K: Cabinet>(
-    alloc: Global,
     cabinet: &mut K,
     command: Command,
     job: &Job,
 ) -> Result<Scanned, Stop>
+    requires shuffles { Shuffles command }
     requires input { Needs job.now JobField.Input }
     requires least { Needs job.now JobField.M }
     ensures judged { Judged 4 5 (λ batch. batch) (batch_file command (request_of job.now))
@@ -82,7 +74,11 @@ pub(crate) fn take_batch<K: Cabinet>(
     ensures number { IfOk result (λ batch. (1 ≤ batch.count) × (batch.count ≤ 262144)) }
     ensures inside { IfOk result (IsInside (K.told cabinet.old) (name_of (request_of job.now) JobField.Input)) }
 {
-    let bytes = read_file(alloc, cabinet, command, Source::Input, job.input())?;
-    let batch = read_batch(alloc, &bytes, job.m())?;
-    Ok(header_of(&batch))
+    let mut buffer = [0; BUFFER];
+    match scan_batch(cabinet, job.input(), job.m(), &mut buffer) {
+        Ok(batch) => Ok(batch),
+        Err(ScanRefused::Failed) => Err(Stop::Unread(Source::Input)),
+        Err(ScanRefused::TooLarge { .. }) => Err(Stop::Refused(Refusal::Large(Role::Input))),
+        Err(ScanRefused::Grammar(refused)) => Err(Stop::Refused(Refusal::Batch(refused))),
+    }
 }
