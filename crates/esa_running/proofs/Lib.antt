@@ -1,0 +1,10 @@
+mod BatchSteps
+mod Fitting
+mod Needed
+mod RanEnds
+mod Rooms
+mod RunEnds
+mod ScanEnds
+mod SentLaws
+mod Shuffled
+mod TurnsLaws

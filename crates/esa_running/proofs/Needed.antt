@@ -1,0 +1,30 @@
+-- What a job has that shuffles a batch, what its drops file is refused for, and what is written where nothing was done.
+use Rattle.std.proofs.Common.{◌≡◌, inl, inr, ℕ, suc, true, List, [], ◌∷◌, length, refl, ap, ◌∙◌, arith}
+use Rattle.std.specs.Prelude.{◌==◌}
+use Rattle.std.proofs.lemmas.Bool.Decides.{nat_tests}
+use Rattle.esa_job.specs.Table.{need_of}
+use Rattle.esa_job.specs.declared.command.Command.{Command}
+use Rattle.esa_job.specs.declared.command.Command.TheVariants.{Run, Shuffle}
+use Rattle.esa_job.specs.declared.field.JobField.{JobField}
+use Rattle.esa_job.specs.declared.field.Need.TheVariants.{Needed}
+use Rattle.esa_job.specs.declared.drops.DropsRefused.{DropsRefused}
+use Rattle.esa_job.specs.declared.drops.DropsRefused.TheVariants.{Line}
+use Rattle.esa_refusal.specs.Refusal.{IsOfInput}
+use Rattle.esa_command.specs.Work.{Write}
+use Rattle.esa_running.specs.Run.{Shuffles, drops_refusal}
+use Rattle.esa_running.specs.RunOwes.{where_made}
+
+pub needs : (field : JobField) (own command : Command) → own ≡ command → Shuffles command → need_of field Run ≡ Needed → need_of field Shuffle ≡ Needed → need_of field own ≡ Needed
+needs field own command same shuffles run shuffle =
+    ap (need_of field) same ∙ elim shuffles [
+      | inl is ↦ ap (need_of field) is ∙ run
+      | inr is ↦ ap (need_of field) is ∙ shuffle
+    ]
+
+pub of_drops : (refused : DropsRefused) → IsOfInput (drops_refusal refused)
+of_drops (Line line) = tt
+
+-- where no access was made, nothing is written
+pub none_made : {A : Type 0} (xs : List A) (writes : List Write) → true ≡ (length xs == 0) → where_made xs writes ≡ []
+none_made [] writes none = refl
+none_made (x ∷ xs) writes none = let empty : suc (length xs) ≡ 0 = grind (arith, nat_tests) in absurd (omega (arith, empty))
