@@ -1,5 +1,5 @@
 -- A run that has ended, in the words of its ending.
-use Rattle.std.proofs.Common.{◌≡◌, ◌==◌, ℕ, ◌+◌, Bool, List, [], ◌∷◌, ◌++◌, length, map, refl, sym, ap, ◌∙◌, subst, arith}
+use Rattle.std.proofs.Common.{◌≡◌, ◌==◌, ℕ, ◌+◌, Bool, List, [], ◌∷◌, ◌++◌, length, map, sym, ap, ◌∙◌, subst, arith}
 use Rattle.esa_laws.proofs.NonceLaws.{nonces-fresh}
 use Rattle.esa_laws.proofs.SlotLaws.{input-once, slot-once}
 use Rattle.esa_device.specs.Recording.{Recorded}

@@ -1,5 +1,5 @@
 -- A floor after the load.
-use Rattle.std.proofs.Common.{◌≡◌, ℕ, ◌+◌, ◌-◌, ◌<◌, ◌≤◌, Option, List, [], ◌∷◌, ◌++◌, length, map, Result, Err, sym, ap, ◌∙◌, subst, arith, add-one}
+use Rattle.std.proofs.Common.{◌≡◌, true, false, ℕ, ◌+◌, ◌-◌, ◌<◌, ◌≤◌, Option, List, [], ◌∷◌, ◌++◌, length, map, Result, Err, refl, sym, ap, ◌∙◌, subst, arith, add-one}
 use Rattle.std.proofs.lemmas.List.{length-map, map-append}
 use Rattle.std.proofs.lemmas.List.FromFn.{length-range_with_len}
 use Rattle.std.specs.List.{range_with_len}
@@ -28,7 +28,7 @@ use Rattle.esa_load.specs.declared.fault.LoadFault.{LoadFault}
 use Rattle.esa_load.specs.declared.fault.LoadFault.TheVariants.{Batch, Device}
 use Rattle.esa_crew.specs.Loads.{IsLoaded}
 use Rattle.esa_crew.proofs.Finishing.{batch_fails, load_fails}
-use Rattle.esa_shuffle.specs.Loading.{EndsLoad, IsNewFloor, IsOfLoad}
+use Rattle.esa_shuffle.specs.Loading.{EndsLoad, HasGiven, IsNewFloor, IsOfLoad}
 use Rattle.esa_shuffle.specs.Runs.{IsCounted}
 
 module _ {V : Type 0} (faults : V → ℕ) (p : Sizes) (ds : ℕ → Draw) (f : Parts V) (new : IsNewFloor faults p ds f) (r : Recorded V)
@@ -125,3 +125,41 @@ module _ {V : Type 0} (faults : V → ℕ) (p : Sizes) (ds : ℕ → Draw) (f : 
           end.5,
           tt,
         )
+
+    -- what was given
+    pub all_given : (all : Type 0) → AreGiven f.plan told part f.plan.b given (written_blocks f.plan f.run given f.plan.b) f.recorder r before after
+        → HasGiven f.plan told part before.heard after.heard all
+    all_given all are = record {
+      given = given;
+      count = f.plan.b;
+      few = omega arith;
+      bytes = are.bytes;
+      as_told = are.as_told;
+      heard = are.heard;
+      whole = λ _. refl;
+    }
+
+    pub some_given : (k : ℕ) (entries : List Carried) → k ≤ f.plan.b → AreGiven f.plan told part k given entries f.recorder r before after
+        → HasGiven f.plan told part before.heard after.heard (false ≡ true)
+    some_given k entries few are = record {
+      given = given;
+      count = k;
+      few = few;
+      bytes = are.bytes;
+      as_told = are.as_told;
+      heard = are.heard;
+      whole = λ (never : false ≡ true). absurd (cc never);
+    }
+
+-- the same, where it is all under another condition
+pub given_where : (p : Sizes) (told : Option (List (List ℕ))) (part : ℕ → List ℕ → List Event) (before after : List Event) (all other : Type 0) → (other → all)
+    → HasGiven p told part before after all → HasGiven p told part before after other
+given_where p told part before after all other so has = record {
+  given = has.given;
+  count = has.count;
+  few = has.few;
+  bytes = has.bytes;
+  as_told = has.as_told;
+  heard = has.heard;
+  whole = λ is. has.whole (so is);
+}

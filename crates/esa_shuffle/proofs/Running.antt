@@ -1,6 +1,6 @@
 -- The attempts of a run, one after another: what a floor is before each of them, and how one ends the run or leads on.
-use Rattle.std.proofs.Common.{◌≡◌, ℕ, zero, suc, ◌+◌, ◌-◌, ◌*◌, ◌<◌, ◌≤◌, Bool, true, false, cond, List, [], ◌∷◌, ◌++◌, length, map, take, Option, Some, None, Result, Ok, Err, refl, sym, ap, ap₂, ◌∙◌, subst, arith, add-one, length-append, length-take}
-use Rattle.std.specs.Prelude.{All, sum_by, slice_index_or, OnOk}
+use Rattle.std.proofs.Common.{◌≡◌, ℕ, zero, suc, ◌+◌, ◌-◌, ◌<◌, ◌≤◌, Bool, true, false, cond, List, [], ◌∷◌, ◌++◌, length, map, take, None, Ok, Err, refl, sym, ap, ap₂, ◌∙◌, subst, arith, add-one, length-append, length-take}
+use Rattle.std.specs.Prelude.{All}
 use Rattle.std.proofs.lemmas.List.Elements.{All-take}
 use Rattle.std.proofs.lemmas.List.FromFn.{get_or-map-range_with_len}
 use Rattle.esa_laws.proofs.HistoryLaws.{lists-first}
@@ -8,9 +8,9 @@ use Rattle.esa_laws.proofs.Ranges.{map-below-suc, sum-below-suc}
 use Rattle.esa_params.specs.Sizes.{Sizes, below}
 use Rattle.esa_spec.specs.Completion.{completed, turns_needed}
 use Rattle.esa_spec.specs.Draws.{Draw}
-use Rattle.esa_spec.specs.Histories.{begun, lists}
+use Rattle.esa_spec.specs.Histories.{lists}
 use Rattle.esa_spec.specs.Traces.{is_failed}
-use Rattle.esa_spec.specs.Verdicts.{is_finished, is_good, verdict}
+use Rattle.esa_spec.specs.Verdicts.{is_good, verdict}
 use Rattle.esa_spec.specs.declared.event.Verdict.{Verdict}
 use Rattle.esa_ending.specs.Seen.{AreCut, history_of, turns_in, verdict_in}
 use Rattle.esa_floor.specs.Parts.{Parts, begun_as, ended_as}

@@ -1,20 +1,17 @@
 -- How an attempt ends, by its turns or by what came after them.
-use Rattle.std.proofs.Common.{◌≡◌, ◌≢◌, ℕ, ◌+◌, ◌*◌, ◌<◌, ◌≤◌, Bool, true, false, cond, List, [], ◌∷◌, ◌++◌, length, take, drop, get_or, Option, Some, None, Result, Ok, Err, refl, sym, ap, ◌∙◌, subst, arith, take-append-drop, length-append}
+use Rattle.std.proofs.Common.{◌≡◌, ◌≢◌, ℕ, ◌+◌, ◌<◌, Bool, true, false, cond, List, [], ◌∷◌, ◌++◌, length, take, drop, get_or, Option, Some, None, Ok, Err, refl, sym, ap, ◌∙◌, subst, arith, take-append-drop, length-append}
 use Rattle.std.proofs.lemmas.List.{length-take-le, take_more}
-use Rattle.esa_device.specs.Recording.{Recorded}
 use Rattle.esa_laws.proofs.AfterLaws.{keeps}
 use Rattle.esa_laws.proofs.TurnLaws.{event_at-append}
 use Rattle.esa_laws.proofs.VerdictLaws.{finished-now, verdict-now}
 use Rattle.esa_params.specs.Sizes.{Sizes}
 use Rattle.esa_spec.specs.Draws.{Draw}
 use Rattle.esa_spec.specs.Lines.{overflows}
-use Rattle.esa_spec.specs.Traces.{is_failed}
 use Rattle.esa_spec.specs.Turns.{event_at, exchanged, next, order}
 use Rattle.esa_spec.specs.Verdicts.{failing, is_finished, is_good, steps, verdict}
 use Rattle.esa_spec.specs.declared.event.Event.TheVariants.{Exchange}
 use Rattle.esa_spec.specs.declared.event.Verdict.{Verdict}
 use Rattle.esa_spec.specs.declared.event.Verdict.TheVariants as verdicts
-use Rattle.esa_floor.specs.Ends.{IsOver}
 use Rattle.esa_floor.specs.Parts.{Parts, ended_as}
 use Rattle.esa_floor.specs.Standing.{IsAtWork, Stands, StopsAt, attempt_begun, turns_made}
 use Rattle.esa_floor.specs.declared.turn.Outcome.TheVariants as outcome
@@ -30,7 +27,7 @@ use Rattle.esa_press.specs.declared.halt.Halt.TheVariants as halt
 use Rattle.esa_crew.proofs.Finishing.{ends_at_fault, ends_tampered, has_failed, is_over, turn_fault, turn_tampered}
 use Rattle.esa_floor.proofs.Resting.{working}
 use Rattle.esa_press.proofs.Finishing.{drain_cut, drain_fails, press_bad, press_cut, press_good}
-use Rattle.esa_shuffle.specs.Attempts.{AttemptEnd, end_of, outcome_of}
+use Rattle.esa_shuffle.specs.Attempts.{AttemptEnd, end_of}
 
 -- an exchange that overflows decides the verdict
 verdict_by : (p : Sizes) (d : Draw) (h : List ℕ) (done j : ℕ) → done < length h → event_at p.b h done ≡ Exchange j

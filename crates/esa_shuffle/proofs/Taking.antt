@@ -1,5 +1,5 @@
 -- The turns that an attempt takes of its completed list.
-use Rattle.std.proofs.Common.{◌≡◌, ◌≢◌, ℕ, zero, suc, ◌+◌, ◌*◌, ◌<◌, ◌≤◌, Bool, true, false, List, [], ◌∷◌, ◌++◌, length, take, get_or, Option, Some, None, Result, Ok, Err, refl, sym, ap, ◌∙◌, subst, arith, take_all, inl, inr}
+use Rattle.std.proofs.Common.{◌≡◌, ◌≢◌, ℕ, zero, suc, ◌+◌, ◌*◌, ◌<◌, ◌≤◌, Bool, true, false, List, [], ◌∷◌, ◌++◌, length, take, get_or, Option, Some, None, Result, Ok, Err, sym, ap, ◌∙◌, subst, arith, take_all, inl, inr}
 use Rattle.std.specs.Prelude.{All, OnOk, is_some, ◌||◌, ◌==◌}
 use Rattle.std.proofs.lemmas.Bool.{cases_lt}
 use Rattle.std.proofs.lemmas.List.Elements.{All-append, All-head, All-tail, All-take}
@@ -15,16 +15,14 @@ use Rattle.esa_spec.specs.declared.event.Verdict.{Verdict}
 use Rattle.esa_vault.specs.declared.fault.VaultFault.{VaultFault}
 use Rattle.esa_floor.specs.Marks.{roots_of}
 use Rattle.esa_floor.specs.Parts.{Parts, begun_as}
-use Rattle.esa_floor.specs.Standing.{IsAtWork, Stands, attempt_begun, turns_made}
+use Rattle.esa_floor.specs.Standing.{Stands, attempt_begun, turns_made}
 use Rattle.esa_floor.specs.declared.floor.Roots.{Roots}
-use Rattle.esa_floor.specs.declared.turn.Stop.{Stop}
 use Rattle.esa_floor.specs.Working.{Working}
 use Rattle.esa_crew.specs.Posts.{AreMembers, ArePosts, IsMember, IsNewWorker}
 use Rattle.esa_crew.specs.Replays.{IsReplayed, IsUnbroken}
 use Rattle.esa_floor.proofs.Resting.{working}
 use Rattle.esa_floor.proofs.Turning.{spread_is}
 use Rattle.esa_shuffle.specs.Attempts.{AddsAttempt, AttemptEnd}
-use Rattle.esa_shuffle.proofs.Stopped.{number_is}
 use Rattle.esa_shuffle.proofs.Storing.{turns_are}
 
 All-again : (w n : ℕ) → All (λ v. v < w) (again n (below w))

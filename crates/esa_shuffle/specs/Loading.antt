@@ -1,6 +1,10 @@
 -- The load of a run: a floor on which nothing was done, and how the load ends.
-use Rattle.std.specs.Prelude.{◌≡◌, ℕ, ◌<◌, [], length, None, Result, Ok, Err}
-use Rattle.esa_params.specs.Sizes.{ArePlanned, Sizes}
+use Rattle.std.specs.Prelude.{◌≡◌, ℕ, ◌*◌, ◌<◌, ◌≤◌, ◌++◌, List, [], flat_map, length, take, Option, Some, None, Result, Ok, Err}
+use Rattle.std.specs.List.{concat}
+use Rattle.esa_load.specs.Loads.{bucket_text}
+use Rattle.esa_outside.specs.Heard.{Event}
+use Rattle.esa_params.specs.Form.{envelope_length}
+use Rattle.esa_params.specs.Sizes.{ArePlanned, Sizes, below, first}
 use Rattle.esa_spec.specs.Draws.{Draw}
 use Rattle.esa_floor.specs.Parts.{Parts, begun_as, ended_as}
 use Rattle.esa_floor.specs.Standing.{Stands}
@@ -32,3 +36,14 @@ abbrev pub EndsLoad : {V T : Type 0} → (V → ℕ) → Sizes → (ℕ → Draw
 EndsLoad faults p ds f before now (Ok done) = Stands faults p ds (begun_as f 0) × (now ≡ before)
 EndsLoad faults p ds f before now (Err o) =
     Stands faults p ds (ended_as f o) × IsCounted f.plan.b (length f.recorder.trace) before now o × IsOfLoad o
+
+-- what a batch gave in the load: the records of its first buckets, one after another. They are the told ones, where they are
+-- told, and just these reads were heard. They are those of all buckets where this is so
+pub record HasGiven (p : Sizes) (told : Option (List (List ℕ))) (part : ℕ → List ℕ → List Event) (before after : List Event) (all : Type 0) : Type 0 where
+  pub given : List ℕ
+  pub count : ℕ
+  pub few : count ≤ p.b
+  pub bytes : length given ≡ envelope_length p.form * first p count
+  pub as_told : (records : List (List ℕ)) → told ≡ Some records → given ≡ concat (take (first p count) records)
+  pub heard : after ≡ before ++ flat_map (λ j. part (first p j) (bucket_text p given j)) (below count)
+  pub whole : all → count ≡ p.b

@@ -14,7 +14,7 @@ use Rattle.esa_spec.specs.Traces.{good_attempt, shuffle_trace, writes_in, writte
 use Rattle.esa_spec.specs.declared.event.Verdict.{Verdict}
 use Rattle.esa_vault.specs.Seals.{opens}
 use Rattle.esa_ending.specs.Endings.{BatchFails, BlockIsTampered, DeviceFails, Overflows}
-use Rattle.esa_ending.specs.Seen.{AreCut, Faults, HasHistory, IsCalm, Seen, history_of, stored, verdict_in}
+use Rattle.esa_ending.specs.Seen.{AreCut, HasHistory, IsCalm, Seen, history_of, stored, verdict_in}
 use Rattle.esa_floor.specs.Parts.{Parts, ended_as}
 use Rattle.esa_floor.specs.Standing.{Stands}
 use Rattle.esa_floor.specs.declared.turn.Outcome.{Outcome}

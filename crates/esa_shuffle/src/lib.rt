@@ -18,3 +18,6 @@ mod tools;
 pub use failures::Failures;
 pub use runs::Ran;
 pub use shuffle::{NoRun, run_turns};
+
+#[cfg(test)]
+mod tests;

@@ -1,8 +1,8 @@
 //! The load of a run.
 
-ghost use Rattle.std.specs.Prelude.{◌≡◌};
+ghost use Rattle.std.specs.Prelude.{◌≡◌, IsOk};
 ghost use Rattle.esa_params.specs.Form.{envelope_length};
-ghost use Rattle.esa_shuffle.specs.Loading.{EndsLoad, IsNewFloor};
+ghost use Rattle.esa_shuffle.specs.Loading.{EndsLoad, HasGiven, IsNewFloor};
 
 use esa_crew::loaded_floors_begin;
 use esa_device::Device;
@@ -22,6 +22,7 @@ pub(crate) fn load<V: Device, G: Told, R: Records>(
     requires count { R.count batch.old ≡ floor.old.plan.n }
     requires size { R.size batch.old ≡ envelope_length floor.old.plan.form }
     ensures ends { EndsLoad V.faults G.plan G.draws floor.new (R.faults batch.old) (R.faults batch.new) result }
+    ensures given { HasGiven floor.old.plan (R.told batch.old) (R.part (R.grounds batch.old)) (R.heard batch.old) (R.heard batch.new) (IsOk result) }
     ensures floor { floor.new ≡ record floor.old { recorder = floor.new.recorder } }
     ensures told { R.told batch.new ≡ R.told batch.old }
     ensures grounds { R.grounds batch.new ≡ R.grounds batch.old }

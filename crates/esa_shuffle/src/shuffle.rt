@@ -1,12 +1,13 @@
 //! A whole run: its memory is taken, and it runs.
 
-ghost use Rattle.std.specs.Prelude.{◌≡◌, ℕ, ◌+◌, ◌<◌, ◌≤◌, ◌^◌, [], Some, IfErr, IfOk, length};
+ghost use Rattle.std.specs.Prelude.{◌≡◌, ◌≢◌, ◌∷◌, ℕ, ◌+◌, ◌<◌, ◌≤◌, ◌^◌, [], Some, IfErr, IfOk, length};
 ghost use Rattle.esa_model.specs.Forecast.{made};
 ghost use Rattle.esa_model.specs.Turns.{AreWorkers};
 ghost use Rattle.esa_params.specs.Form.{envelope_length};
 ghost use Rattle.esa_params.specs.Sizes.{ArePlanned};
 ghost use Rattle.esa_params.specs.Slots.{greatest_trace};
 ghost use Rattle.esa_spec.specs.Draws.{drawn};
+ghost use Rattle.esa_shuffle.specs.Loading.{HasGiven};
 ghost use Rattle.esa_shuffle.specs.Runs.{AreFresh, EndsRun, entries_before, entries_in, opens_last, seen_of};
 
 use crate::failures::Failures;
@@ -72,6 +73,7 @@ fn run_told<G: Told, V: Device, C: Coins, R: Records>(
     requires size { R.size batch.old ≡ envelope_length plan.form }
     ensures ends { IfOk result (λ ran. EndsRun plan G.draws (made plan G.draws turns.now) (seen_of V.faults (V.faults recorder.device) (R.faults batch.old) ran.recorder ran.history (R.faults batch.new))
         (opens_last plan run ran.recorder.last) ran.failures ran.outcome) }
+    ensures given { IfOk result (λ ran. HasGiven plan (R.told batch.old) (R.part (R.grounds batch.old)) (R.heard batch.old) (R.heard batch.new) (ran.history ≢ plan.workers ∷ [])) }
     ensures fresh { IfOk result (λ ran. AreFresh plan ran.recorder.trace) }
     ensures ready { IfOk result (λ ran. ran.recorder.plan ≡ Some plan) }
     ensures room { IfOk result (λ ran. greatest_trace plan ≤ length ran.recorder.trace + ran.recorder.room) }
@@ -123,6 +125,9 @@ pub fn run_turns<V: Device, C: Coins, R: Records>(
     ensures ends { IfOk result (λ ran. let ds = drawn (C.target_list coins.now) (C.order_list coins.now) in
         EndsRun plan ds (made plan ds turns.now) (seen_of V.faults (V.faults recorder.device) (R.faults batch.old) ran.recorder ran.history (R.faults batch.new))
         (opens_last plan run ran.recorder.last) ran.failures ran.outcome) }
+
+    // What the load has read are the records of the batch: of all its buckets, where an attempt was begun.
+    ensures given { IfOk result (λ ran. HasGiven plan (R.told batch.old) (R.part (R.grounds batch.old)) (R.heard batch.old) (R.heard batch.new) (ran.history ≢ plan.workers ∷ [])) }
 
     // No write repeats a nonce.
     ensures fresh { IfOk result (λ ran. AreFresh plan ran.recorder.trace) }

@@ -1,9 +1,9 @@
 -- The load ends the run, or the first attempt may begin.
-use Rattle.std.proofs.Common.{ℕ, Result, Ok, Err, subst}
-use Rattle.esa_load.specs.Loads.{LoadEnd, Source}
+use Rattle.std.proofs.Common.{◌≡◌, true, ◌+◌, ◌++◌, ◌∷◌, [], Result, Ok, Err, subst, arith}
+use Rattle.esa_load.specs.Loads.{LoadEnd, Source, failed_block, written_blocks}
 use Rattle.esa_load.specs.declared.fault.LoadFault.{LoadFault}
 use Rattle.esa_load.specs.declared.fault.LoadFault.TheVariants.{Batch, Device}
-use Rattle.esa_shuffle.proofs.Loaded.{batch_ends, device_ends, is_loaded, moved}
+use Rattle.esa_shuffle.proofs.Loaded.{all_given, batch_ends, device_ends, is_loaded, moved, some_given}
 use Rattle.esa_shuffle.proofs.loads.load.Goals as goal
 
 pub returns-in-Ok-clause-ends : goal.returns-in-Ok-clause-ends
@@ -54,3 +54,53 @@ returns-in-Err-Device-clause-ends g c =
     c.recorder.ensures.value
     (subst (λ (fault : LoadFault). LoadEnd {T = Unit {0}} faults c.args.loader.now.plan c.args.loader.now.run told part given c.recorder.result.now r before after (Err fault)) c.in-Err-Device.field-0-is
     c.in-Err-Device.ensures.end.1))
+
+pub returns-in-Ok-clause-given : goal.returns-in-Ok-clause-given
+returns-in-Ok-clause-given g c =
+    let faults = g.V.Device.faults in
+    let f = c.args.floor.now in
+    let r = c.load.new.recorder in
+    let told = g.R.Records.told c.args.batch.now in
+    let part = g.R.Records.part (g.R.Records.grounds c.args.batch.now) in
+    let before : Source = record { faults = g.R.Records.faults c.args.batch.now; heard = g.R.Records.heard c.args.batch.now } in
+    let after : Source = record { faults = g.R.Records.faults c.load.new.batch; heard = g.R.Records.heard c.load.new.batch } in
+    let given = c.in-Ok.ensures.end.0 in
+    let end = moved faults g.G.Told.plan g.G.Told.draws f c.requires.new r told part given before after c.args.loader.now.plan c.args.loader.now.run c.recorder.result.now (Ok c.in-Ok.field-0) c.requires.plan c.requires.run
+    c.recorder.ensures.value c.in-Ok.ensures.end.1 in
+    all_given faults g.G.Told.plan g.G.Told.draws f c.requires.new r told part given before after (true ≡ true) end.0
+
+pub returns-in-Err-Batch-clause-given : goal.returns-in-Err-Batch-clause-given
+returns-in-Err-Batch-clause-given g c =
+    let faults = g.V.Device.faults in
+    let f = c.args.floor.now in
+    let r = c.load.new.recorder in
+    let told = g.R.Records.told c.args.batch.now in
+    let part = g.R.Records.part (g.R.Records.grounds c.args.batch.now) in
+    let before : Source = record { faults = g.R.Records.faults c.args.batch.now; heard = g.R.Records.heard c.args.batch.now } in
+    let after : Source = record { faults = g.R.Records.faults c.load.new.batch; heard = g.R.Records.heard c.load.new.batch } in
+    let given = c.in-Err-Batch.ensures.end.0 in
+    let end =
+    moved faults g.G.Told.plan g.G.Told.draws f c.requires.new r told part given before after {T = Unit {0}} c.args.loader.now.plan c.args.loader.now.run c.recorder.result.now (Err (Batch c.in-Err-Batch.field-0-0)) c.requires.plan c.requires.run
+    c.recorder.ensures.value
+    (subst (λ (fault : LoadFault). LoadEnd {T = Unit {0}} faults c.args.loader.now.plan c.args.loader.now.run told part given c.recorder.result.now r before after (Err fault)) c.in-Err-Batch.field-0-is
+    c.in-Err-Batch.ensures.end.1) in
+    let inside = end.0 in
+    some_given faults g.G.Told.plan g.G.Told.draws f c.requires.new r told part given before after c.in-Err-Batch.field-0-0 (written_blocks f.plan f.run given c.in-Err-Batch.field-0-0) (omega (arith, inside)) end.1
+
+pub returns-in-Err-Device-clause-given : goal.returns-in-Err-Device-clause-given
+returns-in-Err-Device-clause-given g c =
+    let faults = g.V.Device.faults in
+    let f = c.args.floor.now in
+    let r = c.load.new.recorder in
+    let told = g.R.Records.told c.args.batch.now in
+    let part = g.R.Records.part (g.R.Records.grounds c.args.batch.now) in
+    let before : Source = record { faults = g.R.Records.faults c.args.batch.now; heard = g.R.Records.heard c.args.batch.now } in
+    let after : Source = record { faults = g.R.Records.faults c.load.new.batch; heard = g.R.Records.heard c.load.new.batch } in
+    let given = c.in-Err-Device.ensures.end.0 in
+    let end =
+    moved faults g.G.Told.plan g.G.Told.draws f c.requires.new r told part given before after {T = Unit {0}} c.args.loader.now.plan c.args.loader.now.run c.recorder.result.now (Err (Device c.in-Err-Device.number)) c.requires.plan c.requires.run
+    c.recorder.ensures.value
+    (subst (λ (fault : LoadFault). LoadEnd {T = Unit {0}} faults c.args.loader.now.plan c.args.loader.now.run told part given c.recorder.result.now r before after (Err fault)) c.in-Err-Device.field-0-is
+    c.in-Err-Device.ensures.end.1) in
+    let inside = end.1 in
+    some_given faults g.G.Told.plan g.G.Told.draws f c.requires.new r told part given before after (end.0 + 1) (written_blocks f.plan f.run given end.0 ++ failed_block f.plan end.0 ∷ []) (omega (arith, inside)) end.3

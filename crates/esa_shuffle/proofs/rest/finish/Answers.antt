@@ -1,6 +1,5 @@
 -- A turn that failed ends the attempt.
 use Rattle.std.proofs.Common.{Some, sym, ap, ◌∙◌}
-use Rattle.esa_floor.specs.declared.turn.Stop.{Stop}
 use Rattle.esa_shuffle.proofs.Stopped.{fault_end, overflow_end, tampered_end}
 use Rattle.esa_shuffle.proofs.rest.finish.Goals as goal
 

@@ -1,9 +1,7 @@
 -- The drain and the compression end the attempt.
-use Rattle.std.proofs.Common.{◌+◌, ◌*◌, ◌≤◌, Result, sym, ap, subst, arith}
+use Rattle.std.proofs.Common.{◌+◌, ◌*◌, ◌≤◌, sym, ap, subst, arith}
 use Rattle.esa_params.specs.Sizes.{Sizes}
 use Rattle.esa_floor.specs.Parts.{Parts}
-use Rattle.esa_vault.specs.declared.fault.VaultFault.{VaultFault}
-use Rattle.esa_spec.specs.declared.event.Verdict.{Verdict}
 use Rattle.esa_shuffle.specs.Attempts.{AttemptEnd}
 use Rattle.esa_press.proofs.Finishing.{room_is}
 use Rattle.esa_shuffle.proofs.Stopped.{drain_ends, press_done, press_ends}

@@ -1,5 +1,5 @@
 -- An attempt ends the run, or leads on.
-use Rattle.std.proofs.Common.{◌≡◌, ℕ, ◌+◌, ◌<◌, true, false, List, [], ◌∷◌, ◌++◌, All, length, map, Result, Ok, Err, sym, ap, ap₂, ◌∙◌, subst, arith}
+use Rattle.std.proofs.Common.{◌≡◌, ℕ, ◌+◌, ◌<◌, List, length, Result, Ok, Err, sym, ap, ap₂, ◌∙◌, subst, arith}
 use Rattle.std.proofs.lemmas.List.{length-map}
 use Rattle.std.proofs.lemmas.List.FromFn.{length-range_with_len}
 use Rattle.esa_params.specs.Sizes.{Sizes, below}
@@ -13,7 +13,7 @@ use Rattle.esa_floor.specs.declared.turn.Outcome.{Outcome}
 use Rattle.esa_model.specs.Forecast.{handed_in, made, made_in}
 use Rattle.esa_shuffle.specs.Attempts.{AddsAttempt}
 use Rattle.esa_shuffle.specs.Runs.{MayEnd, entries_before}
-use Rattle.esa_shuffle.proofs.Running.{IsBefore, ends_all, ends_cut, ends_good, first_before, leads_on, room_for}
+use Rattle.esa_shuffle.proofs.Running.{IsBefore, ends_cut, ends_good, leads_on, room_for}
 use Rattle.esa_shuffle.proofs.Taking.{All-full, workers_at}
 use Rattle.esa_shuffle.proofs.runs.make_attempts.Goals as goal
 

@@ -1,5 +1,5 @@
 -- The entries of one attempt more.
-use Rattle.std.proofs.Common.{◌≡◌, ◌+◌, ◌*◌, ◌≤◌, arith}
+use Rattle.std.proofs.Common.{arith}
 use Rattle.esa_shuffle.proofs.Running.{entries-more}
 use Rattle.esa_shuffle.proofs.shuffle.most_entries.Goals as goal
 

@@ -1,10 +1,11 @@
 -- The floor and the tools that were made are those of the plan.
-use Rattle.std.proofs.Common.{◌≡◌, ℕ, ◌<◌, List, length, get_or, sym, ap, ◌∙◌, subst, arith}
+use Rattle.std.proofs.Common.{◌≡◌, ◌≢◌, ℕ, ◌<◌, List, [], ◌∷◌, length, get_or, sym, ap, ◌∙◌, subst, arith}
 use Rattle.esa_envelope.specs.declared.keys.Keys.{Keys}
 use Rattle.esa_params.specs.Sizes.{ArePlanned, Sizes}
 use Rattle.esa_floor.specs.Parts.{Parts}
 use Rattle.esa_model.specs.Forecast.{made}
 use Rattle.esa_model.specs.Turns.{AreWorkers}
+use Rattle.esa_shuffle.specs.Loading.{HasGiven}
 use Rattle.esa_shuffle.specs.Runs.{AreFresh, EndsRun, opens_last, seen_of}
 use Rattle.esa_shuffle.proofs.Ending.{fresh}
 use Rattle.esa_shuffle.proofs.Taking.{is_member}
@@ -45,3 +46,8 @@ returns-in-Ok-make-2-clause-fresh g c =
     (seen_of g.V.Device.faults c.in-Ok-make-2.floor.faults (g.R.Records.faults c.args.batch.now) ran.recorder ran.history (g.R.Records.faults c.run_on.new.batch))
     (opens_last p c.in-Ok-make-2.floor.run ran.recorder.last) ran.failures ran.outcome c.run_on.ensures.ends
     (subst ArePlanned (sym c.requires.plan) c.most_entries-entries.ensures.planned))
+
+pub returns-in-Ok-make-2-clause-given : goal.returns-in-Ok-make-2-clause-given
+returns-in-Ok-make-2-clause-given g c =
+    subst (λ (q : Sizes). HasGiven q (g.R.Records.told c.args.batch.now) (g.R.Records.part (g.R.Records.grounds c.args.batch.now)) (g.R.Records.heard c.args.batch.now)
+    (g.R.Records.heard c.run_on.new.batch) (c.run_on.result.history ≢ q.workers ∷ [])) c.requires.plan c.run_on.ensures.given
