@@ -53,7 +53,7 @@ as_read (Err why) = refl
 as_scanned : (m : ℕ) (bytes : List ℕ) → (within 134217728 Input (Some bytes) >>= batch_step m) ≡ scanned_step (scan_in m bytes)
 as_scanned m bytes =
     elim (nat_lt 134217728 (length bytes)) as (λ large. (cond large (refused (refusal.Large role.Input)) (accepted bytes) >>= batch_step m)
-        ≡ scanned_step (cond large (Err (scan.TooLarge (length bytes))) (scanned_as (batch_in m bytes)))) [
+    ≡ scanned_step (cond large (Err (scan.TooLarge (length bytes))) (scanned_as (batch_in m bytes)))) [
       | true ↦ refl
       | false ↦ as_read (batch_in m bytes)
     ]

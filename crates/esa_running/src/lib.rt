@@ -12,3 +12,6 @@ mod working;
 
 pub use input::{RunInput, take_run};
 pub use run_command::{Ended, run};
+
+#[cfg(test)]
+mod tests;
