@@ -1,3 +1,4 @@
+pub mod Contents
 pub mod Ending
 pub mod Loaded
 pub mod Running

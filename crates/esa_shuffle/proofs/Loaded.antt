@@ -5,31 +5,26 @@ use Rattle.std.proofs.lemmas.List.FromFn.{length-range_with_len}
 use Rattle.std.specs.List.{range_with_len}
 use Rattle.esa_device.specs.Recording.{Recorded}
 use Rattle.esa_envelope.specs.declared.keys.Keys.{Keys}
-use Rattle.esa_laws.proofs.HistoryLaws.{lists-first}
 use Rattle.esa_laws.proofs.Ranges.{below-add, map-below-suc}
 use Rattle.esa_outside.specs.Cause.{Rose}
 use Rattle.esa_outside.specs.Heard.{Event}
 use Rattle.esa_params.specs.Sizes.{Sizes, below}
-use Rattle.esa_params.specs.Slots.{at, number_of, slot_number}
 use Rattle.esa_params.specs.declared.slot.Access.{Access}
-use Rattle.esa_params.specs.declared.slot.Region.TheVariants.{Input}
 use Rattle.esa_spec.specs.Draws.{Draw}
 use Rattle.esa_spec.specs.Fronts.{Begins, EndsWith}
 use Rattle.esa_spec.specs.Histories.{begun}
 use Rattle.esa_spec.specs.Traces.{load, written_input}
 use Rattle.esa_device.specs.Logs.{Carried}
 use Rattle.esa_floor.specs.Ends.{IsLoading}
-use Rattle.esa_floor.specs.Parts.{Parts, begun_as, ended_as}
+use Rattle.esa_floor.specs.Parts.{Parts, ended_as}
 use Rattle.esa_floor.specs.Standing.{IsOf, Stands}
-use Rattle.esa_floor.specs.declared.turn.Outcome.{Outcome}
 use Rattle.esa_floor.specs.declared.turn.Outcome.TheVariants as outcome
 use Rattle.esa_load.specs.Loads.{AreGiven, LoadEnd, Source, failed_block, written_blocks}
 use Rattle.esa_load.specs.declared.fault.LoadFault.{LoadFault}
 use Rattle.esa_load.specs.declared.fault.LoadFault.TheVariants.{Batch, Device}
 use Rattle.esa_crew.specs.Loads.{IsLoaded}
 use Rattle.esa_crew.proofs.Finishing.{batch_fails, load_fails}
-use Rattle.esa_shuffle.specs.Loading.{EndsLoad, HasGiven, IsNewFloor, IsOfLoad}
-use Rattle.esa_shuffle.specs.Runs.{IsCounted}
+use Rattle.esa_shuffle.specs.Loading.{EndsLoad, HasGiven, IsNewFloor}
 
 module _ {V : Type 0} (faults : V → ℕ) (p : Sizes) (ds : ℕ → Draw) (f : Parts V) (new : IsNewFloor faults p ds f) (r : Recorded V)
     (told : Option (List (List ℕ))) (part : ℕ → List ℕ → List Event) (given : List ℕ) (before after : Source)

@@ -5,6 +5,7 @@ ghost use Rattle.esa_crew.specs.Posts.{AreMembers};
 ghost use Rattle.esa_floor.specs.Marks.{roots_of};
 ghost use Rattle.esa_floor.specs.Parts.{begun_as};
 ghost use Rattle.esa_floor.specs.Standing.{Stands};
+ghost use Rattle.esa_press.specs.Contents.{AreOrders};
 ghost use Rattle.esa_spec.specs.Completion.{completed, full};
 ghost use Rattle.esa_shuffle.specs.Attempts.{AddsAttempt, AttemptEnd};
 
@@ -36,6 +37,7 @@ pub(crate) fn make_attempt<V: Device, G: Told, C: Coins>(
     requires plan { press.old.plan ≡ floor.old.plan }
     requires run { press.old.run ≡ floor.old.run }
     requires coins { C.plan coins.now ≡ floor.old.plan }
+    requires orders { AreOrders floor.old.plan (G.draws attempt) (C.order_list coins.now attempt) }
     ensures ends { AttemptEnd V.faults G.plan G.draws attempt floor.new result }
     ensures history { AddsAttempt floor.old.plan (full floor.old.plan (G.draws attempt) turns.now) floor.old.history floor.new.history result }
     ensures origin { roots_of floor.new ≡ roots_of floor.old }

@@ -1,8 +1,14 @@
 //! What comes after the turns of an attempt: the drain and the compression.
 
-ghost use Rattle.std.specs.Prelude.{◌≡◌, ◌*◌, ◌<◌, None, Some, length};
-ghost use Rattle.esa_floor.specs.Standing.{Stands};
+ghost use Rattle.std.specs.Prelude.{◌≡◌, ℕ, ◌*◌, ◌<◌, None, Ok, Some, length};
+ghost use Rattle.esa_device.specs.Logs.{IsFaithful};
+ghost use Rattle.esa_floor.specs.Keeping.{HasInput, QueuesHold, SlotsHold};
+ghost use Rattle.esa_floor.specs.Standing.{Stands, turns_made};
+ghost use Rattle.esa_params.specs.Slots.{item_length};
+ghost use Rattle.esa_press.specs.Contents.{AreItems, AreOrders, AreOutputsStored};
 ghost use Rattle.esa_press.specs.Over.{IsDistributed};
+ghost use Rattle.esa_report.specs.declared.item.Item.{Item};
+ghost use Rattle.esa_spec.specs.Fronts.{Begins};
 ghost use Rattle.esa_shuffle.specs.Attempts.{AttemptEnd, end_of};
 
 use esa_device::Device;
@@ -32,8 +38,17 @@ fn press_on<V: Device, G: Told, C: Coins>(
     requires plan { press.old.plan ≡ floor.old.plan }
     requires run { press.old.run ≡ floor.old.run }
     requires coins { C.plan coins.now ≡ floor.old.plan }
+    requires orders { AreOrders floor.old.plan (G.draws attempt) (C.order_list coins.now attempt) }
     ensures ends { AttemptEnd V.faults G.plan G.draws attempt floor.new result }
     ensures floor { floor.new ≡ record floor.old { recorder = floor.new.recorder; stash = floor.new.stash } }
+    ensures log { Begins floor.old.recorder.log floor.new.recorder.log }
+    ensures input { (record_of : ℕ → Item) → IsFaithful floor.old.plan floor.new.recorder.log → HasInput floor.old record_of → HasInput floor.new record_of }
+
+    // Where the queues and the slots hold the records of the input, and the log is faithful, the output of a good attempt has
+    // the records of its places.
+    ensures outputs { (record_of : ℕ → Item) → AreItems (item_length floor.old.plan.form) record_of → QueuesHold G.draws floor.old → SlotsHold G.draws floor.old
+        → IsFaithful floor.old.plan floor.new.recorder.log → HasInput floor.old record_of → result ≡ Ok Verdict.Good
+        → AreOutputsStored floor.old.plan floor.old.run (G.draws attempt) (turns_made floor.old) attempt record_of floor.old.plan.b floor.new.recorder.log }
     ensures plan { press.new.plan ≡ press.old.plan }
     ensures run { press.new.run ≡ press.old.run }
 {
@@ -61,8 +76,17 @@ pub(crate) fn finish<V: Device, G: Told, C: Coins>(
     requires plan { press.old.plan ≡ floor.old.plan }
     requires run { press.old.run ≡ floor.old.run }
     requires coins { C.plan coins.now ≡ floor.old.plan }
+    requires orders { AreOrders floor.old.plan (G.draws attempt) (C.order_list coins.now attempt) }
     ensures ends { AttemptEnd V.faults G.plan G.draws attempt floor.new result }
     ensures floor { floor.new ≡ record floor.old { recorder = floor.new.recorder; stash = floor.new.stash } }
+    ensures log { Begins floor.old.recorder.log floor.new.recorder.log }
+    ensures input { (record_of : ℕ → Item) → IsFaithful floor.old.plan floor.new.recorder.log → HasInput floor.old record_of → HasInput floor.new record_of }
+
+    // Where the queues and the slots hold the records of the input, and the log is faithful, the output of a good attempt has
+    // the records of its places.
+    ensures outputs { (record_of : ℕ → Item) → AreItems (item_length floor.old.plan.form) record_of → QueuesHold G.draws floor.old → SlotsHold G.draws floor.old
+        → IsFaithful floor.old.plan floor.new.recorder.log → HasInput floor.old record_of → result ≡ Ok Verdict.Good
+        → AreOutputsStored floor.old.plan floor.old.run (G.draws attempt) (turns_made floor.old) attempt record_of floor.old.plan.b floor.new.recorder.log }
     ensures plan { press.new.plan ≡ press.old.plan }
     ensures run { press.new.run ≡ press.old.run }
 {

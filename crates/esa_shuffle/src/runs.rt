@@ -10,6 +10,7 @@ ghost use Rattle.esa_model.specs.Turns.{AreWorkers};
 ghost use Rattle.esa_params.specs.Form.{envelope_length};
 ghost use Rattle.esa_params.specs.Sizes.{ArePlanned};
 ghost use Rattle.esa_params.specs.Slots.{greatest_trace};
+ghost use Rattle.esa_spec.specs.Draws.{drawn};
 ghost use Rattle.esa_spec.specs.Verdicts as verdicts;
 ghost use Rattle.esa_shuffle.specs.Attempts.{outcome_of};
 ghost use Rattle.esa_shuffle.specs.Loading.{HasGiven, IsNewFloor};
@@ -81,6 +82,7 @@ fn make_attempts<V: Device, G: Told, C: Coins>(
     requires plan { press.old.plan ≡ floor.old.plan }
     requires run { press.old.run ≡ floor.old.run }
     requires coins { C.plan coins.now ≡ G.plan }
+    requires draws { (a : ℕ) → G.draws a ≡ drawn (C.target_list coins.now) (C.order_list coins.now) a }
     ensures ends { (count : ℕ) → MayEnd V.faults G.plan G.draws (made G.plan G.draws turns.now) count count floor.new failures.new result }
     ensures origin { roots_of floor.new ≡ roots_of floor.old }
 {
@@ -118,6 +120,7 @@ fn load_and_run<V: Device, G: Told, C: Coins, R: Records>(
     requires loader_plan { tools.old.loader.plan ≡ G.plan }
     requires loader_run { tools.old.loader.run ≡ floor.old.run }
     requires coins { C.plan coins.now ≡ G.plan }
+    requires draws { (a : ℕ) → G.draws a ≡ drawn (C.target_list coins.now) (C.order_list coins.now) a }
     requires count { R.count batch.old ≡ G.plan.n }
     requires size { R.size batch.old ≡ envelope_length G.plan.form }
     ensures ends { MayEnd V.faults G.plan G.draws (made G.plan G.draws turns.now) (R.faults batch.old) (R.faults batch.new) floor.new failures.new result }
@@ -161,6 +164,7 @@ pub(crate) fn run_on<V: Device, G: Told, C: Coins, R: Records>(
     requires loader_plan { tools.old.loader.plan ≡ G.plan }
     requires loader_run { tools.old.loader.run ≡ floor.run }
     requires coins { C.plan coins.now ≡ G.plan }
+    requires draws { (a : ℕ) → G.draws a ≡ drawn (C.target_list coins.now) (C.order_list coins.now) a }
     requires count { R.count batch.old ≡ G.plan.n }
     requires size { R.size batch.old ≡ envelope_length G.plan.form }
     ensures ends { EndsRun G.plan G.draws (made G.plan G.draws turns.now) (seen_of V.faults floor.faults (R.faults batch.old) result.recorder result.history (R.faults batch.new))

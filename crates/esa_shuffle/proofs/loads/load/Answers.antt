@@ -1,5 +1,5 @@
 -- The load ends the run, or the first attempt may begin.
-use Rattle.std.proofs.Common.{◌≡◌, true, ◌+◌, ◌++◌, ◌∷◌, [], Result, Ok, Err, subst, arith}
+use Rattle.std.proofs.Common.{◌≡◌, true, ◌+◌, ◌++◌, ◌∷◌, [], Ok, Err, subst, arith}
 use Rattle.esa_load.specs.Loads.{LoadEnd, Source, failed_block, written_blocks}
 use Rattle.esa_load.specs.declared.fault.LoadFault.{LoadFault}
 use Rattle.esa_load.specs.declared.fault.LoadFault.TheVariants.{Batch, Device}

@@ -1,9 +1,14 @@
 -- The drain and the compression end the attempt.
-use Rattle.std.proofs.Common.{◌+◌, ◌*◌, ◌≤◌, sym, ap, subst, arith}
+use Rattle.std.proofs.Common.{◌+◌, ◌*◌, ◌≤◌, Ok, Err, sym, ap, ◌∙◌, subst, arith}
+use Rattle.esa_device.specs.Logs.{IsFaithful}
 use Rattle.esa_params.specs.Sizes.{Sizes}
 use Rattle.esa_floor.specs.Parts.{Parts}
+use Rattle.esa_floor.specs.Standing.{turns_made}
+use Rattle.esa_spec.specs.Turns.{order}
+use Rattle.esa_ending.proofs.FrontLaws.{onward}
 use Rattle.esa_shuffle.specs.Attempts.{AttemptEnd}
-use Rattle.esa_press.proofs.Finishing.{room_is}
+use Rattle.esa_press.proofs.Finishing.{chunks_are, queues_are, room_is}
+use Rattle.esa_shuffle.proofs.Contents.{drain_bad, drained_log, faithful_before, outputs_on, press_bad, pressed_log}
 use Rattle.esa_shuffle.proofs.Stopped.{drain_ends, press_done, press_ends}
 use Rattle.esa_shuffle.proofs.rest.press_on.Goals as goal
 
@@ -34,3 +39,59 @@ returns-in-Err-compress-clause-ends g c =
     subst (AttemptEnd g.V.Device.faults g.G.Told.plan g.G.Told.draws c.args.attempt c.compress.new.floor) (sym c.end_by-in-Err-compress.ensures)
     (press_ends g.V.Device.faults g.G.Told.plan g.G.Told.draws c.args.floor.now c.args.attempt c.requires.distributed c.drain.new.floor c.compress.new.floor c.in_default.field-0
     c.in_default.ensures.ends c.compress.ensures.floor c.compress.ensures.ready c.compress.ensures.total c.in-Err-compress.halt c.in-Err-compress.ensures.made)
+
+pub returns-in-Err-clause-log : goal.returns-in-Err-clause-log
+returns-in-Err-clause-log g c =
+    drained_log {T = Unit {0}} g.V.Device.faults (g.G.Told.draws c.args.attempt) (order c.args.floor.now.plan.b (turns_made c.args.floor.now)) c.args.attempt c.args.floor.now c.drain.new.floor (Err c.in-Err.halt) c.in-Err.ensures.ends
+
+pub returns-in-Err-clause-input : goal.returns-in-Err-clause-input
+returns-in-Err-clause-input g c = c.in-Err.ensures.input
+
+pub returns-in-Err-clause-outputs : goal.returns-in-Err-clause-outputs
+returns-in-Err-clause-outputs g c = λ record_of items queues slots faithful input good.
+    absurd (drain_bad g.V.Device.faults (g.G.Told.draws c.args.attempt) (order c.args.floor.now.plan.b (turns_made c.args.floor.now)) c.args.attempt c.args.floor.now c.drain.new.floor c.in-Err.halt
+    c.in-Err.ensures.ends (sym c.end_by.ensures ∙ good))
+
+pub returns-in-Ok-clause-log : goal.returns-in-Ok-clause-log
+returns-in-Ok-clause-log g c =
+    onward c.args.floor.now.recorder.log c.drain.new.floor.recorder.log c.compress.new.floor.recorder.log
+    (drained_log g.V.Device.faults (g.G.Told.draws c.args.attempt) (order c.args.floor.now.plan.b (turns_made c.args.floor.now)) c.args.attempt c.args.floor.now c.drain.new.floor (Ok c.in_default.field-0) c.in_default.ensures.ends)
+    (pressed_log c.drain.new.floor.recorder.log c.compress.new.floor.recorder.log c.compress.ensures.log)
+
+pub returns-in-Err-compress-clause-log : goal.returns-in-Err-compress-clause-log
+returns-in-Err-compress-clause-log g c =
+    onward c.args.floor.now.recorder.log c.drain.new.floor.recorder.log c.compress.new.floor.recorder.log
+    (drained_log g.V.Device.faults (g.G.Told.draws c.args.attempt) (order c.args.floor.now.plan.b (turns_made c.args.floor.now)) c.args.attempt c.args.floor.now c.drain.new.floor (Ok c.in_default.field-0) c.in_default.ensures.ends)
+    (pressed_log c.drain.new.floor.recorder.log c.compress.new.floor.recorder.log c.compress.ensures.log)
+
+pub returns-in-Ok-clause-input : goal.returns-in-Ok-clause-input
+returns-in-Ok-clause-input g c = λ record_of faithful input.
+    let x = c.drain.new.floor in
+    let before = faithful_before c.args.floor.now.plan x.recorder.log c.compress.new.floor.recorder.log (pressed_log x.recorder.log c.compress.new.floor.recorder.log c.compress.ensures.log) faithful in
+    c.compress.ensures.input record_of
+    (subst (λ (q : Sizes). IsFaithful q c.compress.new.floor.recorder.log) (sym (ap (λ (y : Parts _). y.plan) c.in_default.ensures.ends.1.others)) faithful)
+    (c.in_default.ensures.input record_of before input)
+
+pub returns-in-Err-compress-clause-input : goal.returns-in-Err-compress-clause-input
+returns-in-Err-compress-clause-input g c = λ record_of faithful input.
+    let x = c.drain.new.floor in
+    let before = faithful_before c.args.floor.now.plan x.recorder.log c.compress.new.floor.recorder.log (pressed_log x.recorder.log c.compress.new.floor.recorder.log c.compress.ensures.log) faithful in
+    c.compress.ensures.input record_of
+    (subst (λ (q : Sizes). IsFaithful q c.compress.new.floor.recorder.log) (sym (ap (λ (y : Parts _). y.plan) c.in_default.ensures.ends.1.others)) faithful)
+    (c.in_default.ensures.input record_of before input)
+
+pub returns-in-Ok-clause-outputs : goal.returns-in-Ok-clause-outputs
+returns-in-Ok-clause-outputs g c = λ record_of items queues slots faithful input good.
+    let f = c.args.floor.now in
+    let x = c.drain.new.floor in
+    let ready = c.requires.distributed in
+    let queued = queues_are g.V.Device.faults g.G.Told.plan g.G.Told.draws f c.args.attempt ready record_of input queues in
+    let chunks = chunks_are g.V.Device.faults g.G.Told.plan g.G.Told.draws f c.args.attempt ready record_of input slots in
+    outputs_on f x (g.G.Told.draws c.args.attempt) c.args.attempt (g.C.Coins.order_list c.args.coins.now c.args.attempt) record_of c.compress.new.floor.recorder.log c.in_default.ensures.ends.1.others
+    (λ orders holds true. (c.in-Ok.ensures.outputs record_of orders holds true).outputs) c.requires.orders
+    (record { items = items; chunks = c.in_default.ensures.chunks record_of chunks; tails = c.in_default.ensures.tails record_of queued }) faithful
+
+pub returns-in-Err-compress-clause-outputs : goal.returns-in-Err-compress-clause-outputs
+returns-in-Err-compress-clause-outputs g c = λ record_of items queues slots faithful input good.
+    absurd (press_bad g.V.Device.faults c.drain.new.floor (g.G.Told.draws c.args.attempt) c.args.attempt c.compress.new.floor.recorder c.in-Err-compress.halt c.in-Err-compress.ensures.made
+    (sym c.end_by-in-Err-compress.ensures ∙ good))

@@ -49,6 +49,9 @@ returns-then-is_good-clause-ends g c =
     (added_in p f.plan ds turns a c.list.result.now f.history c.make_attempt.new.floor.history (Ok c.in-Ok.verdict) inv.before.plan c.list.ensures.value c.in-Ok.ensures.history)
     c.in-Ok.ensures.ends (sym c.is_good.ensures ∙ c.if-is_good.true)
 
+pub make_attempt-requires-clause-orders : goal.make_attempt-requires-clause-orders
+make_attempt-requires-clause-orders g c = λ i i_in. sym (ap (λ (d : Draw). d.order i) (c.requires.draws c.loop-attempt.attempt))
+
 pub add-requires : goal.add-requires
 add-requires g c =
     let p = g.G.Told.plan in
