@@ -2,3 +2,4 @@ mod Lines
 mod Texts
 mod Reading
 mod Inputs
+mod Offered

@@ -1,3 +1,4 @@
 pub mod Together
+pub mod Crew
 pub mod Intake
 pub mod IntakeTaken

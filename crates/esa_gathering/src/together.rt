@@ -15,7 +15,7 @@ use esa_refusal::{Refusal, Stop};
 use std::alloc::Global;
 
 /// How many lines texts have together.
-fn line_total(texts: &[Vec<u8>]) -> u64
+pub(crate) fn line_total(texts: &[Vec<u8>]) -> u64
     requires { length (concat (texts_of texts.now)) < 2 ^ 63 }
     ensures { result ≡ length (all_lines (texts_of texts.now)) }
 {

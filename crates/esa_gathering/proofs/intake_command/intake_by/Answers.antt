@@ -12,7 +12,7 @@ use Rattle.esa_command.proofs.Ending.{ends_stop_inputs, ends_work_inputs}
 use Rattle.esa_shuffling.specs.Batch.{batch_file_work, batch_work}
 use Rattle.esa_gathering.specs.Intake.{intake_input, intake_steps}
 use Rattle.esa_gathering.specs.IntakeTaken.{intake_taken}
-use Rattle.esa_gathering.proofs.intake_command.intake.Goals as goal
+use Rattle.esa_gathering.proofs.intake_command.intake_by.Goals as goal
 
 pub returns-in-Ok : goal.returns-in-Ok
 returns-in-Ok g c =
