@@ -1,13 +1,21 @@
-//! The program: a command and a job file, over the files of the machine and its standard output.
+//! The program: a command and a job file, over the files of the machine and its standard output. A shuffle's external memory
+//! is a file in the folder that the program runs in.
 #![tactic(auto)]
 
-use esa_cli::{End, Status, esa_plain, tell};
+ghost use Rattle.std.specs.Prelude.{◌≡◌, [], IfOk};
+
+use esa_cli::{End, Status, esa_with_device, tell};
+use esa_device::{FileDevice, Recorder};
 use esa_outside::{HostCabinet, HostPrinter};
 use std::alloc::AllocError;
 use std::env;
+use std::fs::File;
 use std::io::ErrorKind;
 use std::process::ExitCode;
-use std::rt::Env;
+use std::rt::{Env, Files};
+
+/// The file that has the external memory of a shuffle.
+const DEVICE: &str = "esa-device.bin";
 
 /// The words after the program's name. Words that are no text are no words of a command line.
 fn words(rt: &(impl Env + AllocGlobal)) -> Result<Vec<String>, AllocError> {
@@ -20,12 +28,24 @@ fn words(rt: &(impl Env + AllocGlobal)) -> Result<Vec<String>, AllocError> {
     }
 }
 
+/// The recorder of the device that a shuffle uses.
+fn device<R: Files<File = File> + AllocGlobal + Clone + Drop>(
+    rt: &R,
+) -> Result<Recorder<FileDevice<R>>, AllocError>
+    ensures { IfOk result (λ recorder. recorder.trace ≡ []) }
+{
+    let path = String::from_str(rt.alloc(), DEVICE)?;
+    Ok(Recorder::make(rt.alloc(), FileDevice::make(rt.clone()?, path)))
+}
+
 fn main(rt: HostRuntime) -> ExitCode {
     let mut cabinet = HostCabinet::make(&rt);
     let mut printer = HostPrinter::make(&rt);
-    let status = match words(&rt) {
-        Ok(words) => esa_plain(rt.alloc(), &words, &mut cabinet, &mut printer),
-        Err(_) => tell(End::Stopped(Status::OutOfMemory), &mut printer),
+    let status = match (words(&rt), device(&rt)) {
+        (Ok(words), Ok(recorder)) => {
+            esa_with_device(rt.alloc(), &words, &mut cabinet, &mut printer, recorder).status
+        }
+        _ => tell(End::Stopped(Status::OutOfMemory), &mut printer),
     };
     ExitCode::from(status.code())
 }

@@ -1,4 +1,5 @@
 mod Commands
+mod Devices
 mod Steps
 mod Explaining
 mod Telling

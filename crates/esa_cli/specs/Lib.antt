@@ -1,3 +1,4 @@
 pub mod Call
 pub mod Plain
 pub mod Explains
+pub mod Device
