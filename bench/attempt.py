@@ -8,8 +8,11 @@ beyond the keys, which are prepared once, and three of the keystream, and one co
 tails, reads chunks and tails again and writes the output; its bare work is SHA-256 and the keystream of their bytes.
 The run ends where the device fails: at the first access behind the load, at the first behind the replay, and never. So
 the differences are what the replay and the rest cost. Instructions are callgrind's, and a busy machine changes nothing.
+Callgrind counts each byte of a long copy by the processor's one instruction for it, so the C library is told not to use
+that.
 """
 
+import os
 import tempfile
 
 from measure import instructions, program, settle
@@ -24,6 +27,7 @@ UNIT = 640_000
 
 
 def main():
+    os.environ["GLIBC_TUNABLES"] = "glibc.cpu.x86_rep_movsb_threshold=268435456:glibc.cpu.x86_rep_stosb_threshold=268435456"
     attempts, bench = program("esa_attempts"), program("esa_bench_blocks")
     targets = []
     with tempfile.TemporaryDirectory() as folder:
