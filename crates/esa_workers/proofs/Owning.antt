@@ -1,5 +1,5 @@
 -- Where each worker found that no bucket is left, all chunks are written.
-use Rattle.std.proofs.Common.{◌≡◌, ◌≢◌, ℕ, ◌+◌, ◌*◌, ◌<◌, ◌≤◌, List, [], ◌∷◌, ◌++◌, length, All, Option, None, Some, refl, sym, ap, ◌∙◌, subst, arith, inl, inr, ◌⊎◌, length-append}
+use Rattle.std.proofs.Common.{◌≡◌, ◌≢◌, ℕ, ◌+◌, ◌*◌, ◌<◌, ◌≤◌, List, [], ◌∷◌, ◌++◌, length, All, Option, None, Some, refl, sym, ap, ◌∙◌, subst, arith, inl, inr, append_assoc, ◌⊎◌, length-append}
 use Rattle.std.specs.Prelude.{slice_index, option_to_list}
 use Rattle.std.proofs.lemmas.Bool.{cases_eq}
 use Rattle.std.proofs.lemmas.List.Elements.{All-append, All-pop}
@@ -13,13 +13,16 @@ use Rattle.esa_spec.specs.Draws.{Draw}
 use Rattle.esa_spec.specs.Histories.{begun, latest}
 use Rattle.esa_spec.specs.Turns.{event_at, writes}
 use Rattle.esa_spec.specs.declared.event.Event.TheVariants.{Done}
+use Rattle.esa_floor.specs.Marks.{mark_of}
 use Rattle.esa_floor.specs.Parts.{Parts}
 use Rattle.esa_floor.specs.Standing.{IsAtWork, IsSpread, Stands, attempt_begun, turns_made}
 use Rattle.esa_floor.specs.declared.turn.Turn.{Turn}
 use Rattle.esa_floor.specs.declared.turn.Turn.TheVariants as turn
 use Rattle.esa_floor.proofs.Resting.{working}
 use Rattle.esa_floor.proofs.Turning.{spread_is}
-use Rattle.esa_workers.specs.Owners.{HasDone}
+use Rattle.esa_turnstile.specs.Passes.{mark_of as mark_seen, number_of, seen_of}
+use Rattle.esa_turnstile.specs.declared.turnstile.Turnstile.{Turnstile}
+use Rattle.esa_workers.specs.Owners.{HasDone, IsBack}
 use Rattle.esa_workers.specs.Works.{FoundNone, IsIdle, Leaves}
 use Rattle.esa_workers.proofs.Placing.{begun_append, latest_on}
 use Rattle.esa_workers.proofs.Turning.{mark_on}
@@ -97,3 +100,32 @@ module _ {V : Type 0} (faults : V → ℕ) (p : Sizes) (ds : ℕ → Draw) (f : 
       let written = done-written p.b p.workers h workers (workers_turns p.workers f.history named) (λ v v_in. found v (each v v_in)) in
       spread.writes ∙ ap (λ (q : Sizes). writes q.b (latest q.workers f.history)) stands.of.plan
       ∙ written ∙ sym (ap (λ (q : Sizes). q.b * q.b) stands.of.plan)
+
+-- a worker that is back has worked in the attempt that was begun
+pub back_has_done : {V C O : Type 0} (ds : ℕ → Draw) (target_lists : C → ℕ → ℕ → List ℕ) (p : Sizes) (t : Turnstile (Parts V) O) (entries : List ℕ) (mark : ℕ) (f : Parts V) (v : ℕ)
+    → begun p.workers entries ≡ begun p.workers f.history → 8 * begun p.workers entries + 5 ≤ mark
+    → IsBack ds target_lists p t entries mark f v → HasDone p f v
+back_has_done ds target_lists p t entries mark f v same at_work back =
+    let worked = back.worked in
+    let seen = seen_of back.new.pass in
+    let later = worked.between ++ number_of back.new.pass ∷ [] in
+    let first : begun p.workers (seen_of back.old.pass) ≡ begun p.workers entries + begun p.workers back.told.0 =
+        ap (begun p.workers) (sym back.told.1) ∙ begun_append p.workers entries back.told.0 in
+    let second : begun p.workers seen ≡ begun p.workers (seen_of back.old.pass) + begun p.workers later =
+        ap (begun p.workers) (worked.seen ∙ append_assoc (seen_of back.old.pass) worked.between (number_of back.new.pass ∷ []))
+        ∙ begun_append p.workers (seen_of back.old.pass) later in
+    let third : begun p.workers f.history ≡ begun p.workers seen + begun p.workers back.found.0 =
+        ap (begun p.workers) (sym back.found.1) ∙ begun_append p.workers seen back.found.0 in
+    let is : begun p.workers seen ≡ begun p.workers f.history = omega (arith, first, second, third, same) in
+    let told = back.mark_told in
+    let kept = worked.mark in
+    record {
+      seen = seen;
+      mark = mark_seen back.new.pass;
+      begins = back.found;
+      attempt = is;
+      at_work = omega (arith, is, same, at_work, told, kept);
+      below = back.mark_found;
+      answer = worked.answer;
+      leaves = subst (λ (n : ℕ). Leaves p seen (mark_seen back.new.pass) n worked.answer) back.own worked.leaves;
+    }

@@ -13,6 +13,6 @@ mod works;
 
 pub use crews::crew;
 pub use gates::{Gate, OpenGate};
-pub use owners::workers_leave_no_chunk;
+pub use owners::{crews_leave_no_chunk, workers_leave_no_chunk};
 pub use posts::{Manned, Post};
 pub use works::work;
