@@ -1,0 +1,5 @@
+pub mod Counting
+pub mod Owning
+pub mod Placing
+pub mod Turning
+pub mod Working

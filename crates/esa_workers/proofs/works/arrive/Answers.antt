@@ -1,0 +1,17 @@
+-- A worker that begins the attempt stands in it, since it had no turn there.
+use Rattle.std.proofs.Common.{sym, ◌∙◌, subst}
+use Rattle.esa_floor.specs.Workers.{WorkerStands}
+use Rattle.esa_workers.proofs.Turning.{started}
+use Rattle.esa_workers.proofs.works.arrive.Goals as goal
+
+pub returns-then-not-is_in-clause-stands : goal.returns-then-not-is_in-clause-stands
+returns-then-not-is_in-clause-stands g c = λ some.
+    let in_it = sym c.attempt.ensures ∙ c.in-Some.is in
+    subst (WorkerStands c.args.floor.now) (sym c.begin.ensures)
+    (started c.args.floor.now c.args.worker.now c.in-Some.attempt in_it
+    ((c.requires.finds c.in-Some.attempt in_it).other (c.is_in.ensures.no c.if-not-is_in.true)))
+
+pub returns-else-not-is_in-clause-stands : goal.returns-else-not-is_in-clause-stands
+returns-else-not-is_in-clause-stands g c = λ some.
+    let in_it = sym c.attempt.ensures ∙ c.in-Some.is in
+    (c.requires.finds c.in-Some.attempt in_it).same (c.is_in.ensures.yes c.if-not-is_in.false)
