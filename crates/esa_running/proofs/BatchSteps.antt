@@ -24,7 +24,6 @@ use Rattle.esa_batcher.specs.Batched.{Batched}
 use Rattle.esa_batcher.specs.Reading.{number_in, unless_fallen, order_in, batch_behind, accepted_as, behind_header, batch_in}
 use Rattle.esa_batcher.specs.Rising.{fall_at}
 use Rattle.esa_batcher.specs.Scanning.{scanned_as, scan_in, IsScanned, HasBegun}
-use Rattle.esa_refusal.specs.declared.refusal.Refusal.{Refusal}
 use Rattle.esa_refusal.specs.declared.refusal.Refusal.TheVariants as refusal
 use Rattle.esa_refusal.specs.declared.source.Source.TheVariants.{Input}
 use Rattle.esa_refusal.specs.declared.stop.Stop.TheVariants.{Refused, Unread}

@@ -1,5 +1,5 @@
 -- The accesses of a run that was cut short fit their file.
-use Rattle.std.proofs.Common.{◌≡◌, ℕ, ◌+◌, ◌<◌, ◌≤◌, ◌^◌, List, length, take, All, refl, ap, subst, ◌∙◌, arith}
+use Rattle.std.proofs.Common.{ℕ, ◌<◌, ◌≤◌, ◌^◌, List, length, take, All, refl, ap, subst, ◌∙◌, arith}
 use Rattle.std.proofs.lemmas.List.{take_at, length-map}
 use Rattle.std.proofs.lemmas.List.Elements.{All-take}
 use Rattle.std.proofs.lemmas.List.FromFn.{length-range_with_len}

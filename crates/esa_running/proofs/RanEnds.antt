@@ -1,10 +1,10 @@
 -- What a run owes whose shuffle failed, by its outcome.
-use Rattle.std.proofs.Common.{◌≡◌, ◌⊎◌, inl, inr, ℕ, ◌≤◌, List, length, map, Option, refl, sym, ap, subst, ◌∙◌, arith}
+use Rattle.std.proofs.Common.{◌≡◌, inl, inr, ℕ, ◌≤◌, List, length, Option, refl, sym, ap, subst, arith}
 use Rattle.std.proofs.lemmas.List.{length-map}
 use Rattle.std.proofs.lemmas.List.FromFn.{length-range_with_len}
 use Rattle.esa_device.specs.Recording.{Recorded}
-use Rattle.esa_ending.specs.Endings.{Overflows, DeviceFails, BlockIsTampered, BatchFails}
-use Rattle.esa_ending.specs.Seen.{Seen, HasHistory, stored, verdict_in}
+use Rattle.esa_ending.specs.Endings.{Overflows}
+use Rattle.esa_ending.specs.Seen.{Seen, verdict_in}
 use Rattle.esa_ending.proofs.FrontLaws.{whole, load-front}
 use Rattle.esa_floor.specs.declared.turn.Outcome.{Outcome}
 use Rattle.esa_floor.specs.declared.turn.Outcome.TheVariants as outcome

@@ -1,5 +1,5 @@
 -- What a run owes whose shuffle succeeded, by what the scans of its output answer.
-use Rattle.std.proofs.Common.{◌≡◌, ◌⊎◌, inl, inr, ℕ, ◌<◌, ◌≤◌, ◌^◌, List, [], length, All, Option, Err, refl, sym, ap, subst, ◌∙◌}
+use Rattle.std.proofs.Common.{◌≡◌, ◌⊎◌, inl, inr, ℕ, ◌<◌, ◌^◌, List, [], length, All, Option, Err, refl, subst}
 use Rattle.std.specs.Prelude.{unwrap_or}
 use Rattle.std.specs.List.{concat}
 use Rattle.esa_analyser.specs.Database.{Database}

@@ -1,6 +1,6 @@
 -- What is forwarded of an output is whole envelopes, no more than it has records.
-use Rattle.std.proofs.Common.{◌≡◌, ℕ, suc, ◌+◌, ◌-◌, ◌*◌, ◌≤◌, cond, Bool, true, false, List, [], ◌∷◌, ◌++◌, length, take, drop, map, replicate, All, Option, Some, None, refl, sym, ap, subst, ◌∙◌, arith}
-use Rattle.std.specs.List.{concat, cons_option, range_with_len}
+use Rattle.std.proofs.Common.{◌≡◌, ℕ, suc, ◌+◌, ◌-◌, ◌*◌, ◌≤◌, cond, Bool, true, false, List, [], ◌∷◌, ◌++◌, length, drop, map, replicate, None, refl, sym, subst, arith}
+use Rattle.std.specs.List.{concat, cons_option}
 use Rattle.std.proofs.lemmas.List.{length-append, length-take, length-drop, length-replicate}
 use Rattle.std.proofs.lemmas.List.Elements.{All-nil, All-cons}
 use Rattle.esa_envelope.specs.declared.keys.Keys.{Keys}
@@ -9,14 +9,14 @@ use Rattle.esa_header.proofs.PieceLaws.{length-concat}
 use Rattle.esa_params.specs.declared.form.Form.{Form}
 use Rattle.esa_params.specs.declared.form.Form.TheVariants.{One, Two}
 use Rattle.esa_params.specs.Form.{inner_length}
-use Rattle.esa_params.specs.Sizes.{Sizes, below, size, first}
+use Rattle.esa_params.specs.Sizes.{Sizes, below, size}
 use Rattle.esa_report.specs.declared.item.Item.{Item}
 use Rattle.esa_report.specs.declared.item.Kind.{Kind}
 use Rattle.esa_report.specs.declared.item.Kind.TheVariants.{Dummy, Real, Malformed}
 use Rattle.esa_report.specs.Item.{full_body}
 use Rattle.esa_crowds.specs.Entries.{if_real, inner_in}
 use Rattle.esa_crowds.specs.Kept.{sent_from}
-use Rattle.esa_scans.specs.Held.{is_real, item_held, items_in}
+use Rattle.esa_scans.specs.Held.{is_real, item_held}
 use Rattle.esa_scans.specs.Scans.{items_of, items_from}
 use Rattle.esa_scans.proofs.HeldLaws.{real_item}
 use Rattle.esa_scans.proofs.ScanLaws.{count-first}

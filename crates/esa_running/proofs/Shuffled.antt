@@ -1,5 +1,5 @@
 -- How a run ends whose shuffle succeeded, by what the scans of its output answer.
-use Rattle.std.proofs.Common.{◌≡◌, ◌⊎◌, inl, inr, ℕ, ◌+◌, ◌<◌, List, [], ◌++◌, Bool, Option, Result, Err, refl, sym, ap, subst, ◌∙◌}
+use Rattle.std.proofs.Common.{◌≡◌, ◌⊎◌, inl, inr, ℕ, ◌+◌, ◌<◌, List, [], ◌++◌, Bool, Option, Err, refl, sym, ap, subst, ◌∙◌}
 use Rattle.esa_device.specs.Recording.{Recorded}
 use Rattle.esa_ending.specs.Endings.{Succeeds, DeviceFails, BlockIsTampered}
 use Rattle.esa_ending.specs.Seen.{Seen, stored}

@@ -1,5 +1,5 @@
 -- What a run owes, by how it went.
-use Rattle.std.specs.Prelude.{◌≡◌, ◌⊎◌, ℕ, Bool, List, [], length, Option, unwrap_or}
+use Rattle.std.specs.Prelude.{◌≡◌, ◌⊎◌, ℕ, List, [], length, Option, unwrap_or}
 use Rattle.esa_lists.specs.Files.{Files}
 use Rattle.esa_device.specs.Recording.{Recorded}
 use Rattle.esa_outside.specs.Cause.{Rose}

@@ -1,4 +1,4 @@
-use Rattle.std.proofs.Common.{◌≡◌, ◌<◌, length, sym, subst, ◌^◌}
+use Rattle.std.proofs.Common.{◌<◌, length, sym, subst, ◌^◌}
 use Rattle.std.specs.Prelude.{All}
 use Rattle.esa_job.specs.Seen.{request_of}
 use Rattle.esa_params.specs.declared.slot.Access.{Access}

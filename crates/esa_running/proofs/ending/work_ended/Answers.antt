@@ -1,4 +1,4 @@
-use Rattle.std.proofs.Common.{◌≡◌, ap, sym, subst, ◌∙◌, refl}
+use Rattle.std.proofs.Common.{ap, subst}
 use Rattle.esa_job.specs.Seen.{request_of}
 use Rattle.esa_outside.specs.declared.Role.TheVariants.{Input}
 use Rattle.esa_refusal.specs.declared.status.DeviceAt.TheVariants.{Slot}

@@ -1,4 +1,4 @@
-use Rattle.std.proofs.Common.{◌≡◌, [], length, refl, sym, ap, subst, ◌∙◌}
+use Rattle.std.proofs.Common.{[], length, sym, ap, subst, ◌∙◌}
 use Rattle.std.specs.Prelude.{◌==◌}
 use Rattle.esa_job.specs.Seen.{request_of}
 use Rattle.esa_outside.specs.declared.Role.TheVariants.{Input}

@@ -1,4 +1,4 @@
-use Rattle.std.proofs.Common.{◌≡◌, length, ap, subst, ◌∙◌}
+use Rattle.std.proofs.Common.{◌≡◌, length, subst}
 use Rattle.esa_spec.specs.Histories.{lists}
 use Rattle.esa_job.specs.Seen.{request_of}
 use Rattle.esa_command.specs.Settled.{Settles}

@@ -5,7 +5,7 @@ use Rattle.esa_refusal.specs.declared.status.Status.TheVariants.{DeviceFault}
 use Rattle.esa_command.specs.Doing.{failed_work}
 use Rattle.esa_command.specs.Stand.{stand}
 use Rattle.esa_command.proofs.Settling.{none_written}
-use Rattle.std.proofs.Common.{ℕ, Err, Result}
+use Rattle.std.proofs.Common.{ℕ, Err}
 use Rattle.esa_device.specs.Laying.{Counted}
 use Rattle.esa_device.specs.declared.device.LayRefused.TheVariants.{Failed}
 use Rattle.esa_outside.specs.Cause.{Rose}

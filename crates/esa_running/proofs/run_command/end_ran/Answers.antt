@@ -1,7 +1,6 @@
 use Rattle.std.proofs.Common.{sym, subst}
 use Rattle.esa_model.specs.Forecast.{made}
 use Rattle.esa_shuffle.specs.Runs.{EndsRun, opens_last, seen_of}
-use Rattle.esa_shuffling.specs.Drawn.{draws_of}
 use Rattle.esa_running.specs.RunOwes.{HasEnded, block_keys}
 use Rattle.esa_running.specs.RunTaken.{run_taken}
 use Rattle.esa_running.proofs.run_command.end_ran.Goals as goal

@@ -1,4 +1,4 @@
-use Rattle.std.proofs.Common.{◌≡◌, [], ap, subst, ◌∙◌}
+use Rattle.std.proofs.Common.{[], ap, subst, ◌∙◌}
 use Rattle.std.specs.Prelude.{OnOk, OnErr, flat_map}
 use Rattle.std.proofs.lemmas.Result.{err_from_is_err_and}
 use Rattle.esa_page.specs.Underway.{IsWhole, IsLeft}

@@ -1,8 +1,5 @@
-use Rattle.std.proofs.Common.{◌≡◌, ℕ, List, length, inl, refl, sym, ap, subst, ◌∙◌}
+use Rattle.std.proofs.Common.{◌≡◌, length, inl, sym, ap, subst, ◌∙◌}
 use Rattle.std.specs.Prelude.{◌<◌, ◌^◌, All, unwrap_or, []}
-use Rattle.esa_device.specs.Recording.{Recorded}
-use Rattle.esa_envelope.specs.declared.keys.Keys.{Keys}
-use Rattle.esa_job.specs.Seen.{request_of}
 use Rattle.esa_job.specs.Table.{need_of}
 use Rattle.esa_job.specs.declared.field.JobField.TheVariants as field
 use Rattle.esa_params.specs.declared.slot.Access.{Access}
@@ -12,7 +9,7 @@ use Rattle.esa_command.specs.Doing.{failed_work}
 use Rattle.esa_command.specs.Settled.{Settles}
 use Rattle.esa_command.specs.Stand.{stand}
 use Rattle.esa_running.specs.Counting.{HasCounted}
-use Rattle.esa_running.specs.RunOwes.{block_keys, inner_keys, fault_status}
+use Rattle.esa_running.specs.RunOwes.{inner_keys}
 use Rattle.esa_running.specs.RunTaken.{run_taken}
 use Rattle.esa_running.specs.RunWork.{run_writes, run_text, record_writes, well_work}
 use Rattle.esa_running.specs.StoredTurns.{IsHistory}
