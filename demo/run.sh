@@ -16,12 +16,12 @@ mkdir "$work/jobs" "$work/steps"
 cp "$demo/forward" "$work/jobs"
 # A job names its files as they lie beside it. The program runs elsewhere here, so they get their whole names.
 for job in "$demo"/*.json; do
-    sed -E "s#\"(keys|input|output)\": \"#&$work/jobs/#g" "$job" >"$work/jobs/${job##*/}"
+    sed -E "s#\"(keys|input|output|trace|turns_out)\": \"#&$work/jobs/#g" "$job" >"$work/jobs/${job##*/}"
 done
 
 # The steps, in order: a command and its job.
-steps=("gen gen" "encode encode" "batch batch" "plan plan" "plan plan_tight" "analyse analyse" "histogram histogram"
-    "upgrade upgrade" "analyse upgrade")
+steps=("gen gen" "encode encode" "batch batch" "plan plan" "run run" "histogram count" "plan plan_tight" "analyse analyse"
+    "histogram histogram" "upgrade upgrade" "analyse upgrade")
 
 run_unproved() {
     echo "Building esa without proofs (demo/run.sh proved builds what the gate builds) .."
@@ -43,7 +43,7 @@ run_proved() {
     for number in "${!steps[@]}"; do
         read -r command job <<<"${steps[number]}"
         status=0
-        "$crate/out/esa" "$command" "$work/jobs/$job.json" >"$work/steps/$number.text" || status=$?
+        (cd "$work" && "$crate/out/esa" "$command" "$work/jobs/$job.json") >"$work/steps/$number.text" || status=$?
         echo "$status" >"$work/steps/$number.status"
     done
 }
@@ -69,19 +69,24 @@ story() {
     echo '   Moment and sender are gone, and the envelopes are in rising order, so nothing tells which came first:'
     head -c 11 batch | od -An -tx1
     step 3
-    echo '   So a shuffle of these 2,000 records would do; it would touch the external memory so often.'
+    echo '   So a shuffle of these 2,000 records will do; it will touch the external memory so often.'
     step 4
-    echo '   The same with a stash and a queue that are too small: each attempt says what failed. docs/SIZING.md tells more.'
-    printf '\n   The shuffler, which makes a forward file of a batch, is not built yet. Here is one that was made apart.\n'
+    echo '   It did. Each access, with its block, its length and its nonce, is the one that plan foretold:'
+    cmp foretold made && wc -c <made | sed 's/^ */   /; s/$/ bytes of both trace files are the same./'
     step 5
-    echo '   Seven of the 400 envelopes had their tag changed, so they did not open; the others hold six values.'
+    echo '   The values that came out, without those of crowds that had fewer than 45 records.'
     step 6
-    echo '   Look at the escapes: a byte that is no printable ASCII stands as \xNN.'
+    echo '   The same with a stash and a queue that are too small: each attempt says what failed. docs/SIZING.md tells more.'
+    printf '\n   Where the analyser is another machine, it gets a forward file. Here is one that was made apart.\n'
     step 7
+    echo '   Seven of the 400 envelopes had their tag changed, so they did not open; the others hold six values.'
+    step 8
+    echo '   Look at the escapes: a byte that is no printable ASCII stands as \xNN.'
+    step 9
     echo '   The same rows as a database of version 2:'
     head -c 13 database | od -An -tx1
     head -c 13 database2 | od -An -tx1
-    step 8
+    step 10
     echo '   What is refused is named, and nothing was written.'
 }
 
