@@ -1,5 +1,5 @@
 -- How many turns a worker may still have in an attempt, and the tickets for them.
-use Rattle.std.proofs.Common.{◌≡◌, ◌≢◌, ℕ, ◌+◌, ◌-◌, ◌*◌, ◌%◌, ◌<◌, ◌≤◌, Bool, true, false, List, [], ◌∷◌, ◌++◌, length, refl, sym, ap, ap₂, ◌∙◌, subst, arith, inl, inr, ◌⊎◌, length-append}
+use Rattle.std.proofs.Common.{◌≡◌, ◌≢◌, ℕ, ◌+◌, ◌-◌, ◌*◌, ◌<◌, ◌≤◌, Bool, List, [], ◌∷◌, ◌++◌, length, sym, ap, ◌∙◌, subst, arith, inl, inr, ◌⊎◌, length-append}
 use Rattle.std.proofs.lemmas.List.{append_cancel_right}
 use Rattle.std.specs.Prelude.{◌==◌, if◌then◌else◌}
 use Rattle.std.proofs.Math.Nat.{mul-le-mul_right}
@@ -13,7 +13,7 @@ use Rattle.esa_laws.proofs.Tests.{unequal}
 use Rattle.esa_laws.proofs.TurnLaws.{held-at_claim}
 use Rattle.esa_params.specs.Sizes.{Sizes}
 use Rattle.esa_spec.specs.Histories.{begun, latest}
-use Rattle.esa_spec.specs.Turns.{claims, event_of, held, next, next_phase, turns_of}
+use Rattle.esa_spec.specs.Turns.{claims, event_of, next, next_phase, turns_of}
 use Rattle.esa_spec.specs.declared.event.Event.TheVariants.{Done}
 use Rattle.esa_floor.specs.Parts.{Parts}
 use Rattle.esa_turnstile.specs.Passes.{left_of, number_of, seen_of}

@@ -1,6 +1,6 @@
 -- Where each worker found that no bucket is left, all chunks are written.
-use Rattle.std.proofs.Common.{◌≡◌, ◌≢◌, ℕ, ◌+◌, ◌*◌, ◌<◌, ◌≤◌, List, [], ◌∷◌, ◌++◌, length, All, Option, None, Some, refl, sym, ap, ◌∙◌, subst, arith, inl, inr, append_assoc, ◌⊎◌, length-append}
-use Rattle.std.specs.Prelude.{slice_index, option_to_list}
+use Rattle.std.proofs.Common.{◌≡◌, ◌≢◌, ℕ, ◌+◌, ◌*◌, ◌<◌, ◌≤◌, List, [], ◌∷◌, ◌++◌, length, All, None, Some, refl, sym, ap, ◌∙◌, subst, arith, inl, inr, append_assoc, length-append}
+use Rattle.std.specs.Prelude.{slice_index}
 use Rattle.std.proofs.lemmas.Bool.{cases_eq}
 use Rattle.std.proofs.lemmas.List.Elements.{All-append, All-pop}
 use Rattle.esa_laws.proofs.DoneLaws.{done-written}
@@ -13,7 +13,6 @@ use Rattle.esa_spec.specs.Draws.{Draw}
 use Rattle.esa_spec.specs.Histories.{begun, latest}
 use Rattle.esa_spec.specs.Turns.{event_at, writes}
 use Rattle.esa_spec.specs.declared.event.Event.TheVariants.{Done}
-use Rattle.esa_floor.specs.Marks.{mark_of}
 use Rattle.esa_floor.specs.Parts.{Parts}
 use Rattle.esa_floor.specs.Standing.{IsAtWork, IsSpread, Stands, attempt_begun, turns_made}
 use Rattle.esa_floor.specs.declared.turn.Turn.{Turn}
@@ -23,7 +22,7 @@ use Rattle.esa_floor.proofs.Turning.{spread_is}
 use Rattle.esa_turnstile.specs.Passes.{mark_of as mark_seen, number_of, seen_of}
 use Rattle.esa_turnstile.specs.declared.turnstile.Turnstile.{Turnstile}
 use Rattle.esa_workers.specs.Owners.{HasDone, IsBack}
-use Rattle.esa_workers.specs.Works.{FoundNone, IsIdle, Leaves}
+use Rattle.esa_workers.specs.Works.{FoundNone, Leaves}
 use Rattle.esa_workers.proofs.Placing.{begun_append, latest_on}
 use Rattle.esa_workers.proofs.Turning.{mark_on}
 
@@ -110,12 +109,12 @@ back_has_done ds target_lists p t entries mark f v same at_work back =
     let seen = seen_of back.new.pass in
     let later = worked.between ++ number_of back.new.pass ∷ [] in
     let first : begun p.workers (seen_of back.old.pass) ≡ begun p.workers entries + begun p.workers back.told.0 =
-        ap (begun p.workers) (sym back.told.1) ∙ begun_append p.workers entries back.told.0 in
+    ap (begun p.workers) (sym back.told.1) ∙ begun_append p.workers entries back.told.0 in
     let second : begun p.workers seen ≡ begun p.workers (seen_of back.old.pass) + begun p.workers later =
-        ap (begun p.workers) (worked.seen ∙ append_assoc (seen_of back.old.pass) worked.between (number_of back.new.pass ∷ []))
-        ∙ begun_append p.workers (seen_of back.old.pass) later in
+    ap (begun p.workers) (worked.seen ∙ append_assoc (seen_of back.old.pass) worked.between (number_of back.new.pass ∷ []))
+    ∙ begun_append p.workers (seen_of back.old.pass) later in
     let third : begun p.workers f.history ≡ begun p.workers seen + begun p.workers back.found.0 =
-        ap (begun p.workers) (sym back.found.1) ∙ begun_append p.workers seen back.found.0 in
+    ap (begun p.workers) (sym back.found.1) ∙ begun_append p.workers seen back.found.0 in
     let is : begun p.workers seen ≡ begun p.workers f.history = omega (arith, first, second, third, same) in
     let told = back.mark_told in
     let kept = worked.mark in

@@ -1,5 +1,5 @@
 -- Where a worker stands in what its pass has seen, on the floor that it finds and after its turn.
-use Rattle.std.proofs.Common.{◌≡◌, ◌≢◌, ℕ, ◌+◌, ◌-◌, ◌*◌, ◌<◌, ◌≤◌, min, Bool, true, false, List, [], ◌∷◌, ◌++◌, length, Option, Some, None, refl, sym, ap, ◌∙◌, subst, arith, inl, inr, ◌⊎◌, append-nil, append_assoc, zero-add}
+use Rattle.std.proofs.Common.{◌≡◌, ◌≢◌, ℕ, ◌+◌, ◌*◌, ◌<◌, ◌≤◌, min, List, [], ◌∷◌, ◌++◌, Option, Some, None, refl, sym, ap, ◌∙◌, subst, arith, inl, inr, ◌⊎◌, append-nil, append_assoc}
 use mathlib.Core.List.{IsPrefix}
 use Rattle.std.proofs.lemmas.Bool.{cases_eq, cases_lt}
 use Rattle.esa_laws.proofs.FinishLaws.{turns_of-append}
@@ -10,8 +10,8 @@ use Rattle.esa_laws.proofs.TurnLaws.{turns_of-push}
 use Rattle.esa_params.specs.Sizes.{Sizes}
 use Rattle.esa_spec.specs.Draws.{Draw}
 use Rattle.esa_spec.specs.Histories.{begun, latest}
-use Rattle.esa_spec.specs.Turns.{held, next_phase, turns_of}
-use Rattle.esa_floor.specs.Marks.{code_of, mark_of, roots_of}
+use Rattle.esa_spec.specs.Turns.{turns_of}
+use Rattle.esa_floor.specs.Marks.{mark_of, roots_of}
 use Rattle.esa_floor.specs.Parts.{Parts}
 use Rattle.esa_floor.specs.Standing.{Stands, turns_made}
 use Rattle.esa_floor.specs.Workers.{IsInRound, IsOfFloor, WorkerStands}

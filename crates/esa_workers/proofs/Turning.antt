@@ -1,22 +1,22 @@
 -- What a turn shows, by the mark and the entries after it, and what a worker needs that comes in.
 use Rattle.std.proofs.Common.{◌≡◌, ◌≢◌, ℕ, ◌+◌, ◌-◌, ◌*◌, ◌%◌, ◌<◌, ◌≤◌, Bool, true, false, List, [], ◌∷◌, ◌++◌, length, Option, Some, None, refl, sym, ap, ◌∙◌, subst, arith, inl, inr, length-append}
-use Rattle.std.specs.Prelude.{◌==◌, if◌then◌else◌, slice_index}
+use Rattle.std.specs.Prelude.{◌==◌, if◌then◌else◌}
 use Rattle.std.proofs.lemmas.Bool.{eq-eqb}
 use Rattle.std.proofs.lemmas.List.{get_or_at}
 use Rattle.std.proofs.Math.Nat.{mod-eq_of_lt}
-use Rattle.esa_laws.proofs.HistoryLaws.{begun-worker, latest-worker}
+use Rattle.esa_laws.proofs.HistoryLaws.{latest-worker}
 use Rattle.esa_laws.proofs.Tests.{unequal}
 use Rattle.esa_params.specs.Sizes.{Sizes}
 use Rattle.esa_spec.specs.Draws.{Draw}
 use Rattle.esa_spec.specs.Histories.{begun, latest}
-use Rattle.esa_spec.specs.Turns.{next, next_phase, turns_of}
+use Rattle.esa_spec.specs.Turns.{next, turns_of}
 use Rattle.esa_spec.specs.declared.event.Event.{Event}
 use Rattle.esa_spec.specs.declared.event.Event.TheVariants as event
 use Rattle.esa_floor.specs.Acts.{answer_in, answer_of}
 use Rattle.esa_floor.specs.Marks.{code_of, mark_of}
 use Rattle.esa_floor.specs.Parts.{Parts}
 use Rattle.esa_floor.specs.Standing.{IsAt, IsAtWork, Stands, attempt_begun, turns_made}
-use Rattle.esa_floor.specs.Workers.{IsInRound, WorkerStands}
+use Rattle.esa_floor.specs.Workers.{WorkerStands}
 use Rattle.esa_floor.specs.Working.{Working, begun_with}
 use Rattle.esa_floor.specs.declared.turn.Outcome.{Outcome}
 use Rattle.esa_floor.specs.declared.turn.Outcome.TheVariants as outcome

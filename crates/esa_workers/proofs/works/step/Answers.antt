@@ -1,5 +1,5 @@
 -- A worker finds the floor as its pass says, and its pass has seen what the turn made of it.
-use Rattle.std.proofs.Common.{◌≡◌, ℕ, ◌+◌, ◌≤◌, List, [], ◌∷◌, ◌++◌, sym, ap, ◌∙◌, subst, arith}
+use Rattle.std.proofs.Common.{◌≡◌, ℕ, ◌+◌, List, [], ◌∷◌, ◌++◌, sym, ap, ◌∙◌, subst, arith}
 use Rattle.esa_laws.proofs.FinishLaws.{turns_of-append}
 use Rattle.esa_turnstile.specs.Entries.{times}
 use Rattle.esa_turnstile.specs.Passes.{added_of, opened_of, seen_of}

@@ -1,5 +1,5 @@
 -- The turn of a worker that stands, on a floor that stands.
-use Rattle.std.proofs.Common.{◌≡◌, ℕ, sym, ap, ◌∙◌, subst}
+use Rattle.std.proofs.Common.{ℕ, ap, ◌∙◌, subst}
 use Rattle.esa_floor.specs.Marks.{mark_of}
 use Rattle.esa_floor.specs.Working.{Working}
 use Rattle.esa_workers.specs.Works.{Shows}
