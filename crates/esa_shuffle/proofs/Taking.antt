@@ -114,6 +114,10 @@ module _ {V : Type 0} (faults : V → ℕ) (p : Sizes) (ds : ℕ → Draw) (f be
       ]
       all_taken (Err fault) end = tt
 
+      -- and they are all where it ends with a verdict
+      pub good_turns : (v : Verdict) (result : Result Verdict VaultFault) → AttemptEnd faults p ds a last result → result ≡ Ok v → turns_made last ≡ whole
+      good_turns v result end is = last_turns ∙ subst (λ (r : Result Verdict VaultFault). OnOk r (taken ≡ whole)) is (all_taken result end)
+
       pub adds : (result : Result Verdict VaultFault) → AttemptEnd faults p ds a last result → AddsAttempt f.plan whole f.history last.history result
       adds result end = record {
         count = replayed_on.count;

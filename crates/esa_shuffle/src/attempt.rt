@@ -1,12 +1,17 @@
 //! One attempt of a run.
 
-ghost use Rattle.std.specs.Prelude.{◌≡◌, ◌+◌, ◌<◌, ◌≤◌, All, None, length};
+ghost use Rattle.std.specs.Prelude.{◌≡◌, ℕ, ◌+◌, ◌<◌, ◌≤◌, All, None, Ok, length, map};
+ghost use Rattle.esa_device.specs.Logs.{Carried, IsFaithful};
 ghost use Rattle.esa_crew.specs.Posts.{AreMembers};
+ghost use Rattle.esa_floor.specs.Keeping.{HasInput};
 ghost use Rattle.esa_floor.specs.Marks.{roots_of};
 ghost use Rattle.esa_floor.specs.Parts.{begun_as};
 ghost use Rattle.esa_floor.specs.Standing.{Stands};
-ghost use Rattle.esa_press.specs.Contents.{AreOrders};
+ghost use Rattle.esa_params.specs.Slots.{item_length};
+ghost use Rattle.esa_press.specs.Contents.{AreItems, AreOrders, AreOutputsStored};
+ghost use Rattle.esa_report.specs.declared.item.Item.{Item};
 ghost use Rattle.esa_spec.specs.Completion.{completed, full};
+ghost use Rattle.esa_spec.specs.Fronts.{Begins};
 ghost use Rattle.esa_shuffle.specs.Attempts.{AddsAttempt, AttemptEnd};
 
 use crate::rest::finish;
@@ -16,6 +21,14 @@ use esa_floor::{Floor, Told, Worker};
 use esa_press::Press;
 use esa_spec::{Coins, Verdict};
 use esa_vault::VaultFault;
+
+/// The log of a floor's recorder has an entry for each access. Nothing changes.
+fn keep_log<V: Device, G: Told>(floor: &mut Floor<V, G>)
+    ensures same { floor.new ≡ floor.old }
+    ensures accesses { map (λ (entry : Carried). entry.access) floor.old.recorder.log ≡ floor.old.recorder.trace }
+{
+    floor.recorder().keeps_its_log();
+}
 
 /// Makes an attempt: it is begun, takes the turns of a list that was handed in, completed, and is drained and compressed.
 pub(crate) fn make_attempt<V: Device, G: Told, C: Coins>(
@@ -40,6 +53,13 @@ pub(crate) fn make_attempt<V: Device, G: Told, C: Coins>(
     requires orders { AreOrders floor.old.plan (G.draws attempt) (C.order_list coins.now attempt) }
     ensures ends { AttemptEnd V.faults G.plan G.draws attempt floor.new result }
     ensures history { AddsAttempt floor.old.plan (full floor.old.plan (G.draws attempt) turns.now) floor.old.history floor.new.history result }
+    ensures log { Begins floor.old.recorder.log floor.new.recorder.log }
+    ensures input { (record_of : ℕ → Item) → IsFaithful floor.old.plan floor.new.recorder.log → HasInput floor.old record_of → HasInput floor.new record_of }
+
+    // Where the input has these records and the log is faithful, the output of a good attempt has those of its places.
+    ensures outputs { (record_of : ℕ → Item) → AreItems (item_length floor.old.plan.form) record_of → IsFaithful floor.old.plan floor.new.recorder.log
+        → HasInput floor.old record_of → result ≡ Ok Verdict.Good
+        → AreOutputsStored floor.old.plan floor.old.run (G.draws attempt) (full floor.old.plan (G.draws attempt) turns.now) attempt record_of floor.old.plan.b floor.new.recorder.log }
     ensures origin { roots_of floor.new ≡ roots_of floor.old }
     ensures outcome { floor.new.outcome ≡ None }
     ensures members { AreMembers G.draws C.target_list floor.new workers.new }
@@ -47,7 +67,9 @@ pub(crate) fn make_attempt<V: Device, G: Told, C: Coins>(
     ensures plan { press.new.plan ≡ press.old.plan }
     ensures run { press.new.run ≡ press.old.run }
 {
+    keep_log(floor);
     begin(floor, workers, attempt);
     replay(floor, workers, turns);
+    keep_log(floor);
     finish(floor, press, coins, attempt)
 }

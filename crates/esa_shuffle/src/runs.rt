@@ -2,6 +2,9 @@
 
 ghost use Rattle.std.specs.Prelude.{◌≡◌, ◌≢◌, ◌∷◌, ◌+◌, ◌<◌, ◌≤◌, ℕ, [], Some, length};
 ghost use Rattle.esa_crew.specs.Posts.{AreMembers};
+ghost use Rattle.esa_device.specs.Logs.{IsFaithful};
+ghost use Rattle.esa_ending.specs.Seen.{turns_in};
+ghost use Rattle.esa_floor.specs.Keeping.{HasInput};
 ghost use Rattle.esa_floor.specs.Marks.{roots_of};
 ghost use Rattle.esa_floor.specs.Parts.{begun_as};
 ghost use Rattle.esa_floor.specs.Standing.{Stands};
@@ -9,8 +12,11 @@ ghost use Rattle.esa_model.specs.Forecast.{made};
 ghost use Rattle.esa_model.specs.Turns.{AreWorkers};
 ghost use Rattle.esa_params.specs.Form.{envelope_length};
 ghost use Rattle.esa_params.specs.Sizes.{ArePlanned};
-ghost use Rattle.esa_params.specs.Slots.{greatest_trace};
+ghost use Rattle.esa_params.specs.Slots.{greatest_trace, item_length};
+ghost use Rattle.esa_press.specs.Contents.{AreItems, AreOutputsStored};
+ghost use Rattle.esa_report.specs.declared.item.Item.{Item};
 ghost use Rattle.esa_spec.specs.Draws.{drawn};
+ghost use Rattle.esa_spec.specs.Fronts.{Begins};
 ghost use Rattle.esa_spec.specs.Verdicts as verdicts;
 ghost use Rattle.esa_shuffle.specs.Attempts.{outcome_of};
 ghost use Rattle.esa_shuffle.specs.Loading.{HasGiven, IsNewFloor};
@@ -84,6 +90,13 @@ fn make_attempts<V: Device, G: Told, C: Coins>(
     requires coins { C.plan coins.now ≡ G.plan }
     requires draws { (a : ℕ) → G.draws a ≡ drawn (C.target_list coins.now) (C.order_list coins.now) a }
     ensures ends { (count : ℕ) → MayEnd V.faults G.plan G.draws (made G.plan G.draws turns.now) count count floor.new failures.new result }
+    ensures log { Begins floor.old.recorder.log floor.new.recorder.log }
+
+    // Where the input has these records and the log is faithful, the output of the attempt that succeeded has those of its
+    // places.
+    ensures outputs { (record_of : ℕ → Item) (a : ℕ) → AreItems (item_length G.plan.form) record_of → IsFaithful G.plan floor.new.recorder.log
+        → HasInput floor.old record_of → result ≡ Outcome.Shuffled a
+        → AreOutputsStored G.plan floor.old.run (G.draws a) (turns_in (made G.plan G.draws turns.now) a) a record_of G.plan.b floor.new.recorder.log }
     ensures origin { roots_of floor.new ≡ roots_of floor.old }
 {
     for attempt in 0..floor.plan().attempts() {

@@ -15,6 +15,20 @@ use Rattle.esa_shuffle.specs.Attempts.{AddsAttempt}
 use Rattle.esa_shuffle.specs.Runs.{MayEnd, entries_before}
 use Rattle.esa_shuffle.proofs.Running.{IsBefore, ends_cut, ends_good, leads_on, room_for}
 use Rattle.esa_shuffle.proofs.Taking.{All-full, workers_at}
+use Rattle.std.proofs.Common.{[], refl, true}
+use Rattle.std.proofs.lemmas.List.FromFn.{get_or-map-range_with_len}
+use Rattle.esa_device.specs.Logs.{IsFaithful}
+use Rattle.esa_envelope.specs.declared.keys.Keys.{Keys}
+use Rattle.esa_params.specs.Slots.{item_length}
+use Rattle.esa_spec.specs.Verdicts.{is_good}
+use Rattle.esa_spec.specs.declared.event.Verdict.TheVariants as verdicts
+use Rattle.esa_vault.specs.declared.fault.VaultFault.TheVariants as fault
+use Rattle.esa_ending.specs.Seen.{turns_in}
+use Rattle.esa_ending.proofs.FrontLaws.{onward}
+use Rattle.esa_floor.specs.declared.turn.Outcome.TheVariants as outcome
+use Rattle.esa_press.specs.Contents.{AreItems, AreOutputsStored}
+use Rattle.esa_shuffle.specs.Attempts.{outcome_of}
+use Rattle.esa_shuffle.proofs.Contents.{faithful_before}
 use Rattle.esa_shuffle.proofs.runs.make_attempts.Goals as goal
 
 -- the turns that an attempt adds are those of its list, completed
@@ -23,6 +37,17 @@ added_in : (p q : Sizes) (ds : ℕ → Draw) (turns : List (List ℕ)) (a : ℕ)
 added_in p q ds turns a list old new result same is added =
     subst (λ (l : List ℕ). AddsAttempt p (full p (ds a) l) old new result) is
     (subst (λ (x : Sizes). AddsAttempt x (full x (ds a) list) old new result) same added)
+
+good_is : (v : Verdict) → is_good v ≡ true → v ≡ verdicts.Good
+good_is verdicts.Good e = refl
+good_is (verdicts.StashOverflow j) e = absurd (cc)
+good_is (verdicts.StashLeft j) e = absurd (cc)
+good_is (verdicts.QueueOverflow j) e = absurd (cc)
+good_is (verdicts.QueueStarved j) e = absurd (cc)
+
+not_shuffled : (why : VaultFault) (a : ℕ) → outcome_of why ≡ outcome.Shuffled a → ⊥
+not_shuffled (fault.Device number) a same = cc
+not_shuffled (fault.Tampered number) a same = cc
 
 pub make_attempt-requires-clause-room : goal.make_attempt-requires-clause-room
 make_attempt-requires-clause-room g c =
@@ -98,5 +123,42 @@ loop-attempt-preserved g c =
       each = done.each ∙ inv.each;
       plan = done.plan ∙ inv.plan ∙ sym (ap (λ (r : Roots). r.plan) done.origin);
       run = done.run ∙ inv.run ∙ sym (ap (λ (r : Roots). r.run) done.origin);
+      log = onward c.args.floor.now.recorder.log f.recorder.log c.make_attempt.new.floor.recorder.log inv.log done.log;
+      input = λ record_of faithful input.
+          done.input record_of (subst (λ (q : Sizes). IsFaithful q c.make_attempt.new.floor.recorder.log) (sym inv.before.plan) faithful)
+          (inv.input record_of (faithful_before p f.recorder.log c.make_attempt.new.floor.recorder.log done.log faithful) input);
       origin = done.origin ∙ inv.origin;
     }
+
+pub returns-then-is_good-clause-log : goal.returns-then-is_good-clause-log
+returns-then-is_good-clause-log g c =
+    onward c.args.floor.now.recorder.log c.loop-attempt.floor.recorder.log c.make_attempt.new.floor.recorder.log c.loop-attempt.invariant.log c.make_attempt.ensures.log
+
+pub returns-in-Err-clause-log : goal.returns-in-Err-clause-log
+returns-in-Err-clause-log g c =
+    onward c.args.floor.now.recorder.log c.loop-attempt.floor.recorder.log c.make_attempt.new.floor.recorder.log c.loop-attempt.invariant.log c.make_attempt.ensures.log
+
+pub returns-then-is_good-clause-outputs : goal.returns-then-is_good-clause-outputs
+returns-then-is_good-clause-outputs g c = λ record_of named items faithful input same.
+    let p = g.G.Told.plan in
+    let ds = g.G.Told.draws in
+    let f = c.loop-attempt.floor in
+    let inv = c.loop-attempt.invariant in
+    let a = c.loop-attempt.attempt in
+    let turns = c.args.turns.now in
+    let log = c.make_attempt.new.floor.recorder.log in
+    let done = c.make_attempt.ensures in
+    let inside : a < p.attempts = omega (arith, c.loop-attempt-test.true, c.attempts-attempt-end.ensures.value, ap (λ (q : Sizes). q.attempts) (c.plan.ensures ∙ c.requires.next.of.plan)) in
+    let number : a ≡ named = cc same in
+    let good = c.in-Ok.is ∙ ap Ok (good_is c.in-Ok.verdict (sym c.is_good.ensures ∙ c.if-is_good.true)) in
+    subst (λ (n : ℕ). AreOutputsStored p c.args.floor.now.run (ds n) (turns_in (made p ds turns) n) n record_of p.b log) number
+    (subst (λ (h : List ℕ). AreOutputsStored p c.args.floor.now.run (ds a) h a record_of p.b log) (sym (get_or-map-range_with_len (made_in p ds turns) 0 p.attempts a a [] inside (omega arith)))
+    (subst (λ (l : List ℕ). AreOutputsStored p c.args.floor.now.run (ds a) (full p (ds a) l) a record_of p.b log) c.list.ensures.value
+    (subst (λ (k : Keys). AreOutputsStored p k (ds a) (full p (ds a) c.list.result.now) a record_of p.b log) (ap (λ (r : Roots). r.run) inv.origin)
+    (subst (λ (q : Sizes). AreOutputsStored q f.run (ds a) (full q (ds a) c.list.result.now) a record_of q.b log) inv.before.plan
+    (done.outputs record_of (subst (λ (q : Sizes). AreItems (item_length q.form) record_of) (sym inv.before.plan) items)
+    (subst (λ (q : Sizes). IsFaithful q log) (sym inv.before.plan) faithful)
+    (inv.input record_of (faithful_before p f.recorder.log log done.log faithful) input) good)))))
+
+pub returns-in-Err-clause-outputs : goal.returns-in-Err-clause-outputs
+returns-in-Err-clause-outputs g c = λ record_of named items faithful input same. absurd (not_shuffled c.in-Err.fault named (sym c.outcome_by.ensures ∙ same))

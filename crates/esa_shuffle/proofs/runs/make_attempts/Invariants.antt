@@ -1,5 +1,9 @@
 -- The attempts before this one have failed, and the crew stands ready.
-use Rattle.std.proofs.Common.{◌≡◌, ◌<◌, length}
+use Rattle.std.proofs.Common.{◌≡◌, ℕ, ◌<◌, length}
+use Rattle.esa_device.specs.Logs.{IsFaithful}
+use Rattle.esa_floor.specs.Keeping.{HasInput}
+use Rattle.esa_report.specs.declared.item.Item.{Item}
+use Rattle.esa_spec.specs.Fronts.{Begins}
 use Rattle.esa_crew.specs.Posts.{AreMembers}
 use Rattle.esa_floor.specs.Marks.{roots_of}
 use Rattle.esa_shuffle.specs.Runs.{entries_before}
@@ -14,5 +18,7 @@ invariant-loop-attempt g l = record {
   each : length l.workers ≡ g.G.Told.plan.workers;
   plan : l.press.plan ≡ l.floor.plan;
   run : l.press.run ≡ l.floor.run;
+  log : Begins l.initial.floor.recorder.log l.floor.recorder.log;
+  input : (record_of : ℕ → Item) → IsFaithful g.G.Told.plan l.floor.recorder.log → HasInput l.initial.floor record_of → HasInput l.floor record_of;
   origin : roots_of l.floor ≡ roots_of l.initial.floor;
 }
