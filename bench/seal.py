@@ -6,7 +6,9 @@
 
 prints an inner envelope, or the outer one that a submission carries, as lines of 32 bytes that a case takes as they
 are. A master has 64 hexadecimal digits; 0 stands for zero bytes. With --epoch N the form is Two, and the masters are
-those of that epoch. With --shares T and --share KEY a share of the value is sealed in place of it. HMAC and SHA-256 are those of Python's library; ChaCha20 stands in demo/make_forward.py.
+those of that epoch. With --shares T and --share KEY a share of the value is sealed in place of it. With --damaged the
+last byte of the inner envelope is another one. HMAC and SHA-256 are those of Python's library; ChaCha20 stands in
+demo/make_forward.py.
 """
 
 import argparse
@@ -64,6 +66,7 @@ def main():
     parser.add_argument("--epoch", type=int)
     parser.add_argument("--shares", type=int, help="how many shares give the value")
     parser.add_argument("--share", default="0", help="the key that shares are made from")
+    parser.add_argument("--damaged", action="store_true", help="the tag of the inner envelope is wrong")
     words = parser.parse_args()
     *crowd, value = [text.encode() for text in words.texts]
     if len(crowd) != (words.kind == "outer"):
@@ -71,6 +74,8 @@ def main():
     if words.shares:
         value = share_of(value, words.shares, master_of(words.share, None), words.nonce)
     envelope = seal(master_of(words.inner, words.epoch), b"inner", words.nonce, report(value, words.epoch))
+    if words.damaged:
+        envelope = envelope[:-1] + bytes([envelope[-1] ^ 1])
     if crowd:
         plain = hashlib.sha256(crowd[0]).digest() + envelope
         envelope = seal(master_of(words.outer, words.epoch), b"outer", words.nonce, plain)

@@ -39,9 +39,18 @@ pub struct Run {
     pub status: u8,
 }
 
+/// A bit that a read of the device gives otherwise than it was written: at this access `mask`, which has this bit alone, is
+/// xored to the byte at the place `byte`, from 0 on.
+#[derive(Clone, Copy, PartialEq, Eq, Debug)]
+pub struct Flip {
+    pub access: u64,
+    pub byte: u32,
+    pub mask: u8,
+}
+
 /// Calls, one after another over the same files, and what they must leave.
 ///
-/// Of two files of one name the later counts. What no file of `left` names must be as it was before the first call.
+/// Each call has a device of its own, whose accesses are counted from 1 on. Of two files of one name the later counts. What no file of `left` names must be as it was before the first call.
 #[derive(Drop)]
 pub struct Case {
     pub name: String,
@@ -53,6 +62,10 @@ pub struct Case {
     pub cabinet_fails: Vec<u64>,
     /// The numbers of the printer's calls that fail, from 1 on.
     pub printer_fails: Vec<u64>,
+    /// The numbers of the device's accesses that fail in each call. With 0 it can't be laid.
+    pub device_fails: Vec<u64>,
+    /// The bits that flip in each call.
+    pub device_flips: Vec<Flip>,
     pub runs: Vec<Run>,
     /// The files that the calls must leave otherwise than they were before.
     pub left: Vec<File>,

@@ -2,7 +2,7 @@
 
 use crate::each::Each;
 use crate::piece::{add_piece, add_text};
-use crate::statement::{add_fails, split_word, status};
+use crate::statement::{add_device, add_fails, split_word, status};
 use crate::wrong::{Mistake, Wrong};
 use crate::{Call, Case, File, Run};
 use std::alloc::Global;
@@ -159,6 +159,7 @@ impl Reader {
             "left" => self.begin_left(rest),
             "cabinet" => add_fails(&mut self.case()?.cabinet_fails, rest),
             "printer" => add_fails(&mut self.case()?.printer_fails, rest),
+            "device" => add_device(self.case()?, rest),
             "run" => self.begin_run(Call::Program, rest),
             "read" => self.begin_run(Call::Reader, rest),
             "prints" => self.add_printed(rest),
@@ -213,6 +214,8 @@ impl Reader {
             files: Vec::new(self.alloc),
             cabinet_fails: Vec::new(self.alloc),
             printer_fails: Vec::new(self.alloc),
+            device_fails: Vec::new(self.alloc),
+            device_flips: Vec::new(self.alloc),
             runs: Vec::new(self.alloc),
             left: Vec::new(self.alloc),
         };

@@ -1,9 +1,12 @@
 //! Runs a case.
 
+ghost use Rattle.std.specs.Prelude.{◌≡◌, [], IfOk};
+
 use crate::compare::{difference, difference_of_bytes};
 use crate::readers::{read, reading_of};
 use esa_case_file::{Call, Case, File, Run};
-use esa_cli::{End, Status, esa_plain, tell};
+use esa_cli::{End, Status, esa_with_device, tell};
+use esa_device::{Flip, MemDevice, Recorder};
 use esa_outside::{MemCabinet, MemPrinter};
 use std::alloc::{AllocError, Global};
 
@@ -16,7 +19,8 @@ pub fn run_case(alloc: Global, case: &Case) -> Result<Vec<String>, AllocError> {
     let mut differences = Vec::new(alloc);
     for (place, run) in case.runs.iter().enumerate() {
         let before = printer.printed().len();
-        let status = perform(alloc, run, &mut cabinet, &mut printer).code();
+        let recorder = recorder_for(alloc, case)?;
+        let status = perform(alloc, run, &mut cabinet, &mut printer, recorder).code();
         let printed = printer.printed().get(before..).unwrap_or_default();
         judge_run(alloc, &mut differences, place, run, status, printed)?;
     }
@@ -24,10 +28,34 @@ pub fn run_case(alloc: Global, case: &Case) -> Result<Vec<String>, AllocError> {
     Ok(differences)
 }
 
+/// A recorder of a device in memory whose accesses fail and whose bits flip as a case says.
+fn recorder_for(alloc: Global, case: &Case) -> Result<Recorder<MemDevice>, AllocError>
+    ensures { IfOk result (λ recorder. recorder.trace ≡ []) }
+{
+    let fails = Vec::from_slice(alloc, &case.device_fails)?;
+    let mut flips = Vec::new(alloc);
+    for flip in &case.device_flips {
+        flips.push(Flip {
+            access: flip.access,
+            byte: flip.byte,
+            mask: flip.mask,
+        })?;
+    }
+    Ok(Recorder::make(alloc, MemDevice::make(fails, flips)))
+}
+
 /// Makes a call. Words that name no reader, and a file that isn't there, end with the status of a wrong command line.
-fn perform(alloc: Global, run: &Run, cabinet: &mut MemCabinet, printer: &mut MemPrinter) -> Status {
+fn perform(
+    alloc: Global,
+    run: &Run,
+    cabinet: &mut MemCabinet,
+    printer: &mut MemPrinter,
+    recorder: Recorder<MemDevice>,
+) -> Status
+    requires { recorder.trace ≡ [] }
+{
     if run.call == Call::Program {
-        return esa_plain(alloc, &run.words, cabinet, printer);
+        return esa_with_device(alloc, &run.words, cabinet, printer, recorder).status;
     }
     let status = match reading_of(&run.words) {
         Some(reading) => read(alloc, reading, cabinet),
