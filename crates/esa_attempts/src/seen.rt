@@ -4,7 +4,7 @@ ghost use Rattle.std.specs.Prelude.{◌≡◌, ◌<◌, Some};
 
 use anyhow::{Result, bail, ensure};
 use esa_device::{Device, Recorder};
-use esa_envelope::Keys;
+use esa_envelope::{Keys, prepare};
 use esa_floor::Outcome;
 use esa_params::{Plan, Region, Slot};
 use esa_spec::Verdict;
@@ -93,7 +93,7 @@ fn add_output<V: Device>(
     if get_block(
         recorder,
         plan,
-        run,
+        &prepare(run),
         slot,
         attempt,
         size,

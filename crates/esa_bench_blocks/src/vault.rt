@@ -7,7 +7,7 @@ use anyhow::{Result, ensure};
 use esa_device::{Device, MemDevice, Recorder};
 use esa_envelope::{Label, Prepared, keys_of, prepare};
 use esa_params::{Form, Params, Plan, Slot, check};
-use esa_vault::{get_block_with, put_block_with};
+use esa_vault::{get_block, put_block};
 use std::alloc::{AllocError, Global};
 
 /// The slot of the one tail of a plan with one bucket.
@@ -116,7 +116,7 @@ fn go_rounds<V: Device>(
     requires sealed { length block.old.sealed.items ≡ block_length plan.now slot }
 {
     for attempt in 0..load.times {
-        let put = put_block_with(
+        let put = put_block(
             recorder,
             plan,
             keys,
@@ -125,7 +125,7 @@ fn go_rounds<V: Device>(
             &block.text,
             &mut block.sealed,
         );
-        let got = get_block_with(
+        let got = get_block(
             recorder,
             plan,
             keys,

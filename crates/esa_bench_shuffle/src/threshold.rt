@@ -4,7 +4,7 @@ ghost use Rattle.std.specs.Prelude.{◌≡◌, ◌*◌, ◌<◌, ◌≤◌, Some
 
 use anyhow::{Result, bail, ensure};
 use esa_device::{Device, MemDevice, Recorder};
-use esa_envelope::{Keys, Label, keys_of};
+use esa_envelope::{Keys, Label, keys_of, prepare};
 use esa_job::Drops;
 use esa_params::{Form, Params, Plan, Region, Slot, check};
 use esa_report::crowd_of;
@@ -173,7 +173,7 @@ fn put_one<V: Device>(
         write_item(item, first.saturating_add(place as u32), crowds);
     }
     let mut sealed = vec![in alloc; 0; length]?;
-    let put = put_block(recorder, plan, keys, slot, 1, &text, &mut sealed);
+    let put = put_block(recorder, plan, &prepare(keys), slot, 1, &text, &mut sealed);
     ensure!(put.is_ok(), "a block wasn't put");
     Ok(())
 }

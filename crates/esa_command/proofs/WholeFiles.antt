@@ -1,5 +1,5 @@
 -- What reading a file whole says of the step that reads it.
-use Rattle.std.proofs.Common.{◌≡◌, ◌⊎◌, inl, inr, ℕ, ◌+◌, ◌≤◌, ◌<◌, true, false, cond, List, [], ◌∷◌, ◌++◌, length, Option, Some, None, Result, Ok, Err, refl, sym, ap, ◌∙◌, append-nil, arith}
+use Rattle.std.proofs.Common.{◌≡◌, ◌⊎◌, inl, inr, ℕ, ◌+◌, ◌≤◌, ◌<◌, true, false, cond, List, [], ◌∷◌, ◌++◌, length, Option, Some, None, Ok, Err, refl, sym, ap, ◌∙◌, append-nil, arith}
 use Rattle.std.specs.Prelude.{nat_lt}
 use Rattle.std.specs.Option.{option_map}
 use Rattle.std.specs.FinMap as map
@@ -12,7 +12,6 @@ use Rattle.esa_outside.specs.Whole.{HasHeard}
 use Rattle.esa_outside.specs.declared.whole.ReadRefused.TheVariants as read_refused
 use Rattle.esa_refusal.specs.declared.refusal.Refusal.TheVariants.{Large}
 use Rattle.esa_refusal.specs.declared.source.Source.{Source}
-use Rattle.esa_refusal.specs.declared.stop.Stop.{Stop}
 use Rattle.esa_refusal.specs.declared.stop.Stop.TheVariants.{Refused, Unread, OutOfMemory}
 use Rattle.esa_refusal.specs.Source.{role_of, limit_of, place_of}
 use Rattle.esa_command.specs.Given.{whole, front, begun, nothing, Agrees}

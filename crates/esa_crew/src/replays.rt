@@ -1,7 +1,6 @@
 //! Turns that are handed in, taken on one thread.
 
-ghost use Rattle.std.specs.Prelude.{◌≡◌, ◌≢◌, ℕ, ◌+◌, ◌*◌, ◌<◌, ◌≤◌, ◌++◌, ◌∷◌, ◌^◌, List, [], None, All, true, false, length, option_to_list, slice_index};
-ghost use Rattle.esa_params.specs.Sizes.{ArePlanned};
+ghost use Rattle.std.specs.Prelude.{◌≡◌, ◌≢◌, ℕ, ◌+◌, ◌*◌, ◌<◌, ◌≤◌, ◌++◌, ◌∷◌, List, [], None, All, true, false, length, option_to_list};
 ghost use Rattle.esa_spec.specs.Completion.{completed};
 ghost use Rattle.esa_spec.specs.Fronts.{Begins};
 ghost use Rattle.esa_spec.specs.Traces.{asked};
@@ -17,7 +16,7 @@ ghost use Rattle.esa_crew.specs.Replays.{IsReplayed};
 
 use esa_device::Device;
 use esa_floor::{Floor, Told, Worker};
-use esa_params::Plan;
+use esa_model::{most_turns, worker_at};
 use esa_spec::Coins;
 
 /// Takes a turn of a worker, and lets the worker prepare.
@@ -100,32 +99,6 @@ fn is_over<V: Device, G: Told>(floor: &Floor<V, G>) -> bool
     ensures over { result ≡ true → floor.now.stop ≡ None → floor.now.counted.writes ≡ floor.now.plan.b * floor.now.plan.b }
 {
     floor.stop().is_some() || floor.spread()
-}
-
-/// How many turns the completion of a list has.
-pub(crate) fn most_turns(plan: &Plan, turns: &[u32]) -> usize
-    requires { length turns.now ≤ 4194304 }
-    ensures value { result ≡ length turns.now + plan.now.b * (plan.now.b + 3) * plan.now.workers }
-    ensures few { result < 2 ^ 31 }
-    ensures planned { ArePlanned plan.now }
-{
-    let b = plan.b();
-    turns.len() + (b * (b + 3) * plan.workers()) as usize
-}
-
-/// The worker of a turn of the completion of a list.
-fn worker_at(plan: &Plan, turns: &[u32], turn: usize) -> u32
-    requires workers { All (λ worker. worker < plan.now.workers) turns.now }
-    requires turn { turn < length turns.now + plan.now.b * (plan.now.b + 3) * plan.now.workers }
-    ensures value { result ≡ slice_index (completed plan.now turns.now) turn }
-    ensures worker { result < plan.now.workers }
-{
-    let workers = plan.workers();
-    if turn < turns.len() {
-        turns[turn]
-    } else {
-        ((turn - turns.len()) % workers as usize) as u32
-    }
 }
 
 /// Takes the turns of a list, and behind them one turn of each worker after another, until the attempt is finished or

@@ -9,12 +9,12 @@ ghost use Rattle.esa_floor.specs.Parts.{begun_as};
 ghost use Rattle.esa_floor.specs.Standing.{Stands};
 ghost use Rattle.esa_crew.specs.Posts.{AreMembers};
 
-use crate::replays::most_turns;
 use crate::{begin, replay, workers};
 use esa_coins::TableCoins;
 use esa_device::{Device, MemDevice, Recorder};
-use esa_envelope::{Keys, Label, keys_of, seal};
+use esa_envelope::{Keys, Label, keys_of, prepare, seal};
 use esa_floor::{Floor, Given, History, Stop, Told, Worker};
+use esa_model::most_turns;
 use esa_params::{Form, Params, Plan, Region, Slot, check};
 use esa_report::Item;
 use esa_spec::Coins;
@@ -111,7 +111,7 @@ fn put<V: Device>(
         region: Region::Input,
         index: bucket,
     };
-    match put_block(recorder, plan, run, slot, 0, &text, &mut sealed) {
+    match put_block(recorder, plan, &prepare(run), slot, 0, &text, &mut sealed) {
         Ok(()) => Ok(()),
         Err(_) => Err(Fail::from("a block is written")),
     }

@@ -20,7 +20,7 @@ use esa_params::{Plan, Region, Slot};
 use esa_report::Item;
 use esa_spec::Coins;
 use esa_stash::Overflow;
-use esa_vault::{VaultFault, get_block_with, item_with, put_items, seal_block_with};
+use esa_vault::{VaultFault, get_block, item_of, put_items, seal_block};
 
 /// Opens the first envelopes of a text, of so many bytes each, as many as there are items.
 pub(crate) fn open_all(keys: &Prepared, size: usize, text: &[u8], items: &mut [Item])
@@ -30,7 +30,7 @@ pub(crate) fn open_all(keys: &Prepared, size: usize, text: &[u8], items: &mut [I
 {
     for place in 0..items.len() {
         let at = place * size;
-        items[place] = item_with(keys, &text[at..at + size]);
+        items[place] = item_of(keys, &text[at..at + size]);
     }
 }
 
@@ -153,7 +153,7 @@ fn seal_one(
         region: Region::Mid,
         index: bucket * plan.b() + target,
     };
-    seal_block_with(plan, keys, slot, attempt, text, block);
+    seal_block(plan, keys, slot, attempt, text, block);
 }
 
 /// Reads the block of a bucket of the input to the first bytes of `sealed`, and opens it to the first of `text`.
@@ -182,7 +182,7 @@ fn read_some<V: Device>(
         index: bucket,
     };
     let sealed = &mut sealed[..size + 40];
-    get_block_with(
+    get_block(
         recorder,
         plan,
         keys,

@@ -11,7 +11,7 @@ use esa_device::{Device, Recorder};
 use esa_envelope::Prepared;
 use esa_outside::Records;
 use esa_params::{Plan, Region, Slot};
-use esa_vault::put_block_with;
+use esa_vault::put_block;
 
 /// Writes the block of a bucket with this text, for which `sealed` is room.
 fn write_bucket<V: Device>(
@@ -34,7 +34,7 @@ fn write_bucket<V: Device>(
         region: Region::Input,
         index: bucket,
     };
-    match put_block_with(recorder, plan, run, slot, 0, text, sealed) {
+    match put_block(recorder, plan, run, slot, 0, text, sealed) {
         Ok(()) => Ok(()),
         Err(_) => Err(LoadFault::Device(plan.number(slot))),
     }

@@ -1,8 +1,7 @@
 //! The distribution of an attempt, by numbers alone: its turns, up to the one that finishes it.
 
-ghost use Rattle.std.specs.Prelude.{◌≡◌, ℕ, ◌+◌, ◌-◌, ◌*◌, ◌<◌, ◌≤◌, ◌^◌, ◌++◌, ◌∷◌, [], List, Some, None, All, IfOk, IfSome, IfNone, length, nat_lt, slice_index, option_to_list, if◌then◌else◌};
-ghost use Rattle.esa_params.specs.Sizes.{ArePlanned};
-ghost use Rattle.esa_spec.specs.Completion.{completed, full};
+ghost use Rattle.std.specs.Prelude.{◌≡◌, ℕ, ◌+◌, ◌*◌, ◌<◌, ◌≤◌, ◌^◌, ◌++◌, ◌∷◌, [], List, Some, None, All, IfOk, IfSome, IfNone, length, nat_lt, option_to_list, if◌then◌else◌};
+ghost use Rattle.esa_spec.specs.Completion.{full};
 ghost use Rattle.esa_spec.specs.Draws.{drawn};
 ghost use Rattle.esa_params.specs.Slots.{IsPlanned};
 ghost use Rattle.esa_spec.specs.Traces.{asked, chunk_slot, spread};
@@ -12,6 +11,7 @@ ghost use Rattle.esa_model.specs.Recorded.{with_accesses};
 ghost use Rattle.esa_model.specs.Seats.{event_of_next, IsPlannedEvent};
 ghost use Rattle.esa_model.specs.Passed.{AreFew, AreLines, IsExchanged, all_staying};
 
+use crate::completion::{most_turns, worker_at};
 use crate::lines::Lines;
 use crate::rounds::Rounds;
 use crate::trace::Trace;
@@ -202,30 +202,4 @@ fn chunks_of(plan: &Plan) -> u32
     ensures { result ≡ plan.now.b * plan.now.b }
 {
     plan.b() * plan.b()
-}
-
-// How many turns the completion of a list has at most.
-fn most_turns(plan: &Plan, turns: &[u32]) -> usize
-    requires { length turns.now ≤ 4194304 }
-    ensures value { result ≡ length turns.now + plan.now.b * (plan.now.b + 3) * plan.now.workers }
-    ensures few { result < 2 ^ 31 }
-    ensures planned { ArePlanned plan.now }
-{
-    let b = plan.b();
-    turns.len() + (b * (b + 3) * plan.workers()) as usize
-}
-
-// The worker of a turn of the completion of a list.
-fn worker_at(plan: &Plan, turns: &[u32], turn: usize) -> u32
-    requires workers { All (λ worker. worker < plan.now.workers) turns.now }
-    requires turn { turn < length turns.now + plan.now.b * (plan.now.b + 3) * plan.now.workers }
-    ensures value { result ≡ slice_index (completed plan.now turns.now) turn }
-    ensures worker { result < plan.now.workers }
-{
-    let workers = plan.workers();
-    if turn < turns.len() {
-        turns[turn]
-    } else {
-        ((turn - turns.len()) % workers as usize) as u32
-    }
 }

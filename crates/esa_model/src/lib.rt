@@ -8,6 +8,7 @@
 #![tactic(auto)]
 
 mod attempt;
+mod completion;
 mod compression;
 mod distribution;
 mod draft;
@@ -20,6 +21,7 @@ mod trace;
 mod turns;
 mod word;
 
+pub use completion::{most_turns, worker_at};
 pub use esa_spec::{Event, Verdict};
 pub use forecast::Forecast;
 pub use predictor::Predictor;

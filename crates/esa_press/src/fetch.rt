@@ -14,7 +14,7 @@ use esa_device::{Device, Recorder};
 use esa_envelope::Prepared;
 use esa_params::{Form, Plan, Region, Slot};
 use esa_report::Item;
-use esa_vault::{VaultFault, get_block_with, item_in_text};
+use esa_vault::{VaultFault, get_block, item_in_text};
 
 /// Reads the block of a slot into `sealed`, opens it into `text`, and has its items then. As many of them are no dummies
 /// as are counted. `items` is as it was where the block wasn't got.
@@ -43,7 +43,7 @@ pub(crate) fn fetch_items<V: Device>(
     ensures gives { GivesRecords plan.now keys.now slot attempt items.new recorder.old recorder.new result }
     ensures unchanged { OnErr result (items.new ≡ items.old) }
 {
-    get_block_with(recorder, plan, keys, slot, attempt, count, sealed, text)?;
+    get_block(recorder, plan, keys, slot, attempt, count, sealed, text)?;
     open_items(plan.form(), text, items);
     Ok(())
 }

@@ -11,7 +11,7 @@ use esa_device::{Device, Recorder};
 use esa_envelope::Prepared;
 use esa_params::{Plan, Slot};
 use esa_report::Item;
-use esa_vault::{VaultFault, put_block_with, put_items};
+use esa_vault::{VaultFault, put_block, put_items};
 
 /// Seals items as the block of a slot in an attempt, and writes it. `text` and `sealed` are room for the block.
 pub(crate) fn store_items<V: Device>(
@@ -34,5 +34,5 @@ pub(crate) fn store_items<V: Device>(
     ensures { IsWritten V.told V.faults V.last_call plan.now slot attempt (sealed_block plan.now keys.now slot attempt (text_of (item_length plan.now.form) items.now)) recorder.old recorder.new result }
 {
     put_items(plan.form(), items, text);
-    put_block_with(recorder, plan, keys, slot, attempt, text, sealed)
+    put_block(recorder, plan, keys, slot, attempt, text, sealed)
 }

@@ -21,7 +21,7 @@ use esa_device::{Device, Recorder};
 use esa_envelope::Prepared;
 use esa_hmac::Mac;
 use esa_params::{Plan, Region, Slot};
-use esa_vault::{VaultFault, get_block_with};
+use esa_vault::{VaultFault, get_block};
 
 /// How many bytes a block is longer than its text.
 const SEAL: usize = 40;
@@ -62,7 +62,7 @@ fn read_block<V: Device>(
         index: bucket,
     };
     let text = text_length(plan, bucket);
-    get_block_with(
+    get_block(
         recorder,
         plan,
         keys,

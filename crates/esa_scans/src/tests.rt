@@ -4,7 +4,7 @@ ghost use Rattle.std.specs.Prelude.{◌≡◌, ◌<◌, Some};
 
 use super::*;
 use esa_device::{Device, MemDevice, Recorder};
-use esa_envelope::{Keys, Label, keys_of};
+use esa_envelope::{Keys, Label, keys_of, prepare};
 use esa_job::{Drops, DropsRefused};
 use esa_params::{Form, Params, Plan, Region, Slot, check};
 use esa_vault::put_block;
@@ -106,7 +106,7 @@ fn put<V: Device>(
         }
     }
     let mut sealed = vec![in alloc; 0; length]?;
-    put_block(recorder, plan, &run_keys(), slot, 1, &text, &mut sealed)?;
+    put_block(recorder, plan, &prepare(&run_keys()), slot, 1, &text, &mut sealed)?;
     Ok(())
 }
 

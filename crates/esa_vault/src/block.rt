@@ -8,23 +8,12 @@ ghost use Rattle.esa_vault.specs.Seals.{opens, sealed_block, text_in};
 
 use crate::filled::is_filled;
 use crate::text::item_length;
-use esa_envelope::{Keys, Label, Prepared, nonce_of, prepare, seal_with, unseal_with};
+use esa_envelope::{Label, Prepared, nonce_of, seal_with, unseal_with};
 use esa_params::{Plan, Region, Slot};
 
 /// Seals the text of a block for its slot in an attempt, under the run keys. The text of a block of `Input` is
 /// its envelopes, and that of any other block is its items, one after another.
-pub fn seal_block(plan: &Plan, keys: &Keys, slot: Slot, attempt: u32, plain: &[u8], out: &mut [u8])
-    requires planned { IsPlanned plan.now slot }
-    requires plain { length plain.now ≡ plain_length plan.now slot.region slot.index }
-    requires out { length out.old ≡ block_length plan.now slot }
-    ensures sealed { out.new ≡ sealed_block plan.now keys.now slot attempt plain.now }
-    ensures nonce { nonce_in out.new ≡ nonce_of plan.now attempt slot }
-{
-    seal_block_with(plan, &prepare(keys), slot, attempt, plain, out);
-}
-
-/// Seals as [`seal_block`] does, under keys that were prepared.
-pub fn seal_block_with(
+pub fn seal_block(
     plan: &Plan,
     keys: &Prepared,
     slot: Slot,

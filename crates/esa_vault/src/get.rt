@@ -9,7 +9,7 @@ ghost use Rattle.esa_vault.specs.Traffic.{GivesLatest, GivesTold, IsOpenedTo, Is
 use crate::block::open_block;
 use crate::fault::VaultFault;
 use esa_device::{Device, Recorder};
-use esa_envelope::{Keys, Prepared, prepare};
+use esa_envelope::Prepared;
 use esa_params::{Op, Plan, Slot};
 
 /// Reads the block of a slot into `sealed` and opens it into `plain`. Tampered exactly where the device gave bytes
@@ -17,42 +17,6 @@ use esa_params::{Op, Plan, Slot};
 /// not looked at for a block of `Input`. `plain` is as it was where no bytes were given, or their nonce or their tag
 /// differs, and otherwise has the opened text.
 pub fn get_block<V: Device>(
-    recorder: &mut Recorder<V>,
-    plan: &Plan,
-    keys: &Keys,
-    slot: Slot,
-    attempt: u32,
-    count: u32,
-    sealed: &mut [u8],
-    plain: &mut [u8],
-) -> Result<(), VaultFault>
-    requires planned { IsPlanned plan.now slot }
-    requires ready { recorder.old.plan ≡ Some plan.now }
-    requires room { 0 < recorder.old.room }
-    requires sealed { length sealed.old ≡ block_length plan.now slot }
-    requires plain { length plain.old ≡ plain_length plan.now slot.region slot.index }
-    ensures read { IsRead V.told V.faults V.last_call plan.now slot attempt (opens plan.now keys.now slot attempt count) sealed.new recorder.old recorder.new result }
-    ensures opened { IsOpenedTo plan.now keys.now slot attempt sealed.new plain.old plain.new result }
-
-    // Where the log is faithful, the text is the one that was sealed last for the slot. So it is over a device that
-    // tells, which gives what the slot holds.
-    ensures latest { GivesLatest plan.now keys.now slot attempt count plain.new recorder.old recorder.new result }
-    ensures told { GivesTold plan.now keys.now slot attempt count sealed.new plain.new (V.told recorder.old.device) result }
-{
-    get_block_with(
-        recorder,
-        plan,
-        &prepare(keys),
-        slot,
-        attempt,
-        count,
-        sealed,
-        plain,
-    )
-}
-
-/// Gets a block as [`get_block`] does, under keys that were prepared.
-pub fn get_block_with<V: Device>(
     recorder: &mut Recorder<V>,
     plan: &Plan,
     keys: &Prepared,

@@ -5,7 +5,7 @@ ghost use Rattle.esa_report.specs.Item.{is_well_formed};
 ghost use Rattle.esa_report.specs.Zero.{is_zero};
 ghost use Rattle.esa_vault.specs.Items.{IsEnvelopeLength, item_of};
 
-use esa_envelope::{Keys, Label, Prepared, prepare, unseal_with};
+use esa_envelope::{Label, Prepared, unseal_with};
 use esa_report::{Item, Kind};
 
 /// The bytes that an envelope has beyond its text.
@@ -16,18 +16,7 @@ const BODY: usize = 264;
 
 /// The item of an outer envelope of 176 or 304 bytes: real with the text that it opens to under the outer
 /// keys, and malformed where it doesn't open.
-pub fn item_of(outer: &Keys, envelope: &[u8]) -> Item
-    requires { IsEnvelopeLength (length envelope.now) }
-    ensures value { result ≡ item_of outer.now envelope.now }
-    ensures not_dummy { result.kind ≢ Kind.Dummy }
-    ensures well_formed { IsTrue (is_well_formed result) }
-    ensures padded { IsTrue (is_zero (drop (length envelope.now - 40) result.body)) }
-{
-    item_with(&prepare(outer), envelope)
-}
-
-/// The item that [`item_of`] gives, under keys that were prepared.
-pub fn item_with(outer: &Prepared, envelope: &[u8]) -> Item
+pub fn item_of(outer: &Prepared, envelope: &[u8]) -> Item
     requires { IsEnvelopeLength (length envelope.now) }
     ensures value { result ≡ item_of outer.now envelope.now }
     ensures not_dummy { result.kind ≢ Kind.Dummy }

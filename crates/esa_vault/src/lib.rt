@@ -15,11 +15,11 @@ pub mod laws;
 mod put;
 mod text;
 
-pub use block::{seal_block, seal_block_with};
+pub use block::seal_block;
 pub use fault::VaultFault;
-pub use get::{get_block, get_block_with};
-pub use item::{item_of, item_with};
-pub use put::{put_block, put_block_with, write_block};
+pub use get::get_block;
+pub use item::item_of;
+pub use put::{put_block, write_block};
 pub use text::{item_in_text, put_items};
 
 #[cfg(test)]

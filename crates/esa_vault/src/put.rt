@@ -6,10 +6,10 @@ ghost use Rattle.esa_params.specs.Slots.{IsPlanned, block_length, nonce_of, plai
 ghost use Rattle.esa_vault.specs.Seals.{sealed_block};
 ghost use Rattle.esa_vault.specs.Traffic.{IsWritten};
 
-use crate::block::seal_block_with;
+use crate::block::seal_block;
 use crate::fault::VaultFault;
 use esa_device::{Device, Recorder};
-use esa_envelope::{Keys, Prepared, prepare};
+use esa_envelope::Prepared;
 use esa_params::{Op, Plan, Slot};
 
 /// Writes a block that was sealed for its slot and attempt. It fails only where the device's count of faults rose. The
@@ -40,27 +40,6 @@ pub fn write_block<V: Device>(
 pub fn put_block<V: Device>(
     recorder: &mut Recorder<V>,
     plan: &Plan,
-    keys: &Keys,
-    slot: Slot,
-    attempt: u32,
-    plain: &[u8],
-    sealed: &mut [u8],
-) -> Result<(), VaultFault>
-    requires planned { IsPlanned plan.now slot }
-    requires ready { recorder.old.plan ≡ Some plan.now }
-    requires room { 0 < recorder.old.room }
-    requires plain { length plain.now ≡ plain_length plan.now slot.region slot.index }
-    requires sealed { length sealed.old ≡ block_length plan.now slot }
-    ensures sealed { sealed.new ≡ sealed_block plan.now keys.now slot attempt plain.now }
-    ensures written { IsWritten V.told V.faults V.last_call plan.now slot attempt sealed.new recorder.old recorder.new result }
-{
-    put_block_with(recorder, plan, &prepare(keys), slot, attempt, plain, sealed)
-}
-
-/// Puts a block as [`put_block`] does, under keys that were prepared.
-pub fn put_block_with<V: Device>(
-    recorder: &mut Recorder<V>,
-    plan: &Plan,
     keys: &Prepared,
     slot: Slot,
     attempt: u32,
@@ -75,6 +54,6 @@ pub fn put_block_with<V: Device>(
     ensures sealed { sealed.new ≡ sealed_block plan.now keys.now slot attempt plain.now }
     ensures written { IsWritten V.told V.faults V.last_call plan.now slot attempt sealed.new recorder.old recorder.new result }
 {
-    seal_block_with(plan, keys, slot, attempt, plain, sealed);
+    seal_block(plan, keys, slot, attempt, plain, sealed);
     write_block(recorder, plan, slot, attempt, sealed)
 }

@@ -5,7 +5,7 @@ ghost use Rattle.esa_params.specs.Slots.{IsPlanned};
 use super::*;
 use esa_bytes::hex_into;
 use esa_device::{Flip, MemDevice, Recorder};
-use esa_envelope::{Keys, Label, keys_of};
+use esa_envelope::{Keys, Label, keys_of, prepare};
 use esa_params::{Form, Params, Plan, Slot, check};
 use std::alloc::{AllocError, Global};
 use std::process::Abort;
@@ -43,7 +43,7 @@ fn dummies(alloc: Global, plan: &Plan, slot: Slot, attempt: u32) -> Result<Vec<u
     let length = plan.block_length(slot) as usize;
     let text = vec![in alloc; 0; length - 40]?;
     let mut sealed = vec![in alloc; 0; length]?;
-    seal_block(plan, &run_keys(), slot, attempt, &text, &mut sealed);
+    seal_block(plan, &prepare(&run_keys()), slot, attempt, &text, &mut sealed);
     Ok(sealed)
 }
 
@@ -76,7 +76,7 @@ fn put_and_get(
 ) -> Result<(Result<(), VaultFault>, Vec<u8>), Fail>
     requires { IsPlanned plan.now slot }
 {
-    let keys = run_keys();
+    let keys = prepare(&run_keys());
     let length = plan.block_length(slot) as usize;
     let text = vec![in alloc; 0; length - 40]?;
     let mut sealed = vec![in alloc; 0; length]?;

@@ -11,10 +11,10 @@ pub loop-place-preserved : goal.loop-place-preserved
 loop-place-preserved c =
     let f : ℕ → Item = item_opened c.args.keys.now c.args.size c.args.text.now in
     let one : c.loop-place.place + 1 ≡ suc c.loop-place.place = omega arith in
-    ap (λ (n : ℕ). take n (set c.loop-place.items c.loop-place.place c.item_with.result)) one
-    ∙ take-suc-set c.loop-place.items c.loop-place.place c.item_with.result (omega arith)
-    ∙ ap (λ (items : List Item). items ++ c.item_with.result ∷ []) c.loop-place.invariant
-    ∙ ap (λ (item : Item). map f (below c.loop-place.place) ++ item ∷ []) c.item_with.ensures.value
+    ap (λ (n : ℕ). take n (set c.loop-place.items c.loop-place.place c.item_of.result)) one
+    ∙ take-suc-set c.loop-place.items c.loop-place.place c.item_of.result (omega arith)
+    ∙ ap (λ (items : List Item). items ++ c.item_of.result ∷ []) c.loop-place.invariant
+    ∙ ap (λ (item : Item). map f (below c.loop-place.place) ++ item ∷ []) c.item_of.ensures.value
     ∙ sym (map-range_with_len_more f 0 c.loop-place.place c.loop-place.place (omega arith))
 
 pub returns : goal.returns

@@ -1,7 +1,7 @@
 use Rattle.std.proofs.Common.{◌≡◌, ℕ, ◌+◌, ◌-◌, ◌%◌, length, get_or, ap, sym, ◌∙◌, arith}
 use Rattle.esa_spec.specs.Completion.{completed}
 use Rattle.esa_laws.proofs.FinishLaws.{completed-turn, completed-added}
-use Rattle.esa_model.proofs.distribution.worker_at.Goals as goal
+use Rattle.esa_model.proofs.completion.worker_at.Goals as goal
 
 pub returns-then-turn-turns-clause-value : goal.returns-then-turn-turns-clause-value
 returns-then-turn-turns-clause-value c = sym (completed-turn c.args.plan.now c.args.turns.now c.args.turn (omega arith))

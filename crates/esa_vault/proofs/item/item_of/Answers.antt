@@ -7,7 +7,7 @@ use Rattle.esa_report.specs.Zero.{is_zero}
 use Rattle.esa_report.proofs.ZeroLemmas.{is_zero-zero_body}
 use Rattle.esa_vault.specs.Items.{item_from}
 use Rattle.esa_vault.proofs.ItemLemmas.{full_body-over, is_zero-full, is_zero-rest}
-use Rattle.esa_vault.proofs.item.item_with.Goals as goal
+use Rattle.esa_vault.proofs.item.item_of.Goals as goal
 
 -- a real item with a body
 abbrev real : List ℕ → Item

@@ -2,7 +2,7 @@ use Rattle.std.proofs.Common.{arith, ap, ◌∙◌}
 use Rattle.esa_envelope.specs.declared.label.Label.TheVariants.{Block}
 use Rattle.esa_envelope.specs.Envelope.{nonce_in}
 use Rattle.esa_envelope.proofs.EnvelopeLemmas.{nonce_in-sealed_as}
-use Rattle.esa_vault.proofs.block.seal_block_with.Goals as goal
+use Rattle.esa_vault.proofs.block.seal_block.Goals as goal
 
 pub returns-clause-nonce : goal.returns-clause-nonce
 returns-clause-nonce c =

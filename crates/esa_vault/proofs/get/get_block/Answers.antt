@@ -1,6 +1,6 @@
 use Rattle.std.proofs.Common.{arith}
 use Rattle.esa_vault.proofs.GetLaws.{gives-latest, gives-told}
-use Rattle.esa_vault.proofs.get.get_block_with.Goals as goal
+use Rattle.esa_vault.proofs.get.get_block.Goals as goal
 
 pub returns-clause-latest : goal.returns-clause-latest
 returns-clause-latest g c =
