@@ -127,7 +127,8 @@ abbrev cost : Sizes → Step → ℕ
 cost p (Import j i) = p.b + 1
 cost p (Put j) = 1
 
-length-import : (p : Sizes) (a i : ℕ) → length (import_reads p a i) ≡ p.b + 1
+-- an import reads the chunks and the tail
+pub length-import : (p : Sizes) (a i : ℕ) → length (import_reads p a i) ≡ p.b + 1
 length-import p a i =
     length-append (map (read_chunk p a i) (below p.b)) (access_of p a Reads (at Tail i) ∷ [])
     ∙ omega (arith, length-map (below p.b) (read_chunk p a i), length-range_with_len 0 p.b)
@@ -156,11 +157,12 @@ imports-cost : (p : Sizes) (j : ℕ) (is : List ℕ) → sum_by (cost p) (map (I
 imports-cost p j [] = omega arith
 imports-cost p j (i ∷ is) = omega (arith, sum_by-cons (cost p) (Import j i) (map (Import j) is), imports-cost p j is)
 
-imported-le : (p : Sizes) (j : ℕ) → imported p j ≤ imported p (suc j)
-imported-le p zero = omega arith
-imported-le p (suc j) = omega arith
+-- imports only go on
+pub imported-rises : (p : Sizes) (j : ℕ) → imported p j ≤ imported p (suc j)
+imported-rises p zero = omega arith
+imported-rises p (suc j) = omega arith
 
-imported-few : (p : Sizes) (j : ℕ) → imported p j ≤ p.b
+pub imported-few : (p : Sizes) (j : ℕ) → imported p j ≤ p.b
 imported-few p zero = omega arith
 imported-few p (suc j) = omega arith
 
@@ -183,7 +185,7 @@ steps-cost p (suc m) =
       sum-of-flat_map (cost p) (steps_of p) (below m),
       steps-cost p m,
       steps_of-cost p m,
-      difference (imported p m) (imported p (suc m)) (p.b + 1) (imported-le p m),
+      difference (imported p m) (imported p (suc m)) (p.b + 1) (imported-rises p m),
     )
 
 compression-le : (p : Sizes) (d : Draw) (a : ℕ) → length (walk p d a (steps p)) ≤ p.b * (p.b + 1) + p.b

@@ -24,6 +24,17 @@ range-suc a n =
     ap (range_with_len a) (sym (add-one n)) ∙ sym (map-id (range_with_len a (n + 1))) ∙ map-range_with_len_more (λ (y : ℕ). y) a n (a + n) refl
     ∙ ap (λ y. y ++ (a + n) ∷ []) (map-id (range_with_len a n))
 
+-- a list of numbers in two parts
+pub range-add : (a m n : ℕ) → range_with_len a (m + n) ≡ range_with_len a m ++ range_with_len (a + m) n
+range-add a m zero = ap (range_with_len a) (add-zero m) ∙ sym (append-nil (range_with_len a m))
+range-add a m (suc n) =
+    let next : m + suc n ≡ suc (m + n) = omega arith in
+    let last : a + (m + n) ≡ a + m + n = omega arith in
+    ap (range_with_len a) next ∙ range-suc a (m + n) ∙ ap (λ (l : List ℕ). l ++ (a + (m + n)) ∷ []) (range-add a m n)
+    ∙ append_assoc (range_with_len a m) (range_with_len (a + m) n) ((a + (m + n)) ∷ [])
+    ∙ ap (λ (k : ℕ). range_with_len a m ++ (range_with_len (a + m) n ++ k ∷ [])) last
+    ∙ ap (λ (l : List ℕ). range_with_len a m ++ l) (sym (range-suc (a + m) n))
+
 pub below-add : (m n : ℕ) → below (m + n) ≡ below m ++ range_with_len m n
 below-add m zero = ap below (add-zero m) ∙ sym (append-nil (below m))
 below-add m (suc n) =

@@ -45,6 +45,14 @@ module _ (p : Sizes) (d : Draw) where
   walk-append a [] ys = refl
   walk-append a (x ∷ xs) ys = walk-by a x xs ys (is_good (step_verdict p d x)) refl (walk-append a xs ys)
 
+  no-more : (c : Bool) → cond {A = List Access} c [] [] ≡ []
+  no-more true = refl
+  no-more false = refl
+
+  -- the accesses of one step alone
+  pub walk-one : (a : ℕ) (x : Step) → walk p d a (x ∷ []) ≡ step_accesses p d a x
+  walk-one a x = ap (λ (l : List Access). step_accesses p d a x ++ l) (no-more (is_good (step_verdict p d x))) ∙ append-nil (step_accesses p d a x)
+
 -- one target more
 one-test : (i t : ℕ) → bit (nat_lt t (i + 1)) ≡ bit (nat_lt t i) + bit (t == i)
 one-test i t = grind (arith, nat_tests)

@@ -1,5 +1,5 @@
 -- The steps of a compression, one after another, and accesses that are recorded one by one.
-use Rattle.std.proofs.Common.{◌≡◌, ◌≢◌, ℕ, zero, suc, ◌+◌, ◌-◌, ◌<◌, ◌≤◌, Bool, true, false, cond, Option, Some, None, List, [], ◌∷◌, ◌++◌, length, map, refl, sym, ap, ◌∙◌, subst, arith, append-nil, append_assoc, add-one, length-append, add-zero}
+use Rattle.std.proofs.Common.{◌≡◌, ◌≢◌, ℕ, suc, ◌+◌, ◌-◌, ◌<◌, ◌≤◌, Bool, true, false, cond, Option, Some, None, List, [], ◌∷◌, ◌++◌, length, map, refl, sym, ap, ◌∙◌, subst, arith, append-nil, add-one, length-append}
 use Rattle.std.specs.Prelude.{find}
 use Rattle.std.specs.List.{range_with_len, flat_map}
 use Rattle.std.specs.Option.{option_or}
@@ -9,14 +9,11 @@ use Rattle.std.proofs.lemmas.List.Folds.{find-append}
 use Rattle.std.proofs.lemmas.List.FromFn.{length-range_with_len}
 use Rattle.esa_params.specs.Sizes.{Sizes, below, first}
 use Rattle.esa_params.specs.declared.slot.Access.{Access}
-use Rattle.esa_laws.proofs.Ranges.{below-add, below-add-one, map-below-suc, range-suc}
-use Rattle.esa_laws.proofs.WalkLaws.{steps_verdict, steps_verdict-append, walk-append}
+use Rattle.esa_laws.proofs.Ranges.{below-add, below-add-one, map-below-suc, range-add, range-suc}
+use Rattle.esa_laws.proofs.WalkLaws.{steps_verdict, steps_verdict-append, walk-append, walk-one}
 use Rattle.esa_spec.specs.Draws.{Draw}
-use Rattle.esa_params.specs.Slots.{at, access_of}
-use Rattle.esa_params.specs.declared.slot.Region.TheVariants.{Tail}
-use Rattle.esa_params.specs.declared.slot.Op.TheVariants.{Read as Reads}
-use Rattle.esa_spec.specs.Traces.{walk, step_accesses, read_chunk, import_reads}
-use Rattle.esa_spec.specs.Verdicts.{Step, Import, step_verdict, is_good, imported, steps_of}
+use Rattle.esa_spec.specs.Traces.{walk, step_accesses}
+use Rattle.esa_spec.specs.Verdicts.{Step, Import, step_verdict, is_good, steps_of}
 use Rattle.esa_spec.specs.declared.event.Verdict.{Verdict}
 use Rattle.esa_spec.specs.declared.event.Verdict.TheVariants.{Good, StashOverflow, StashLeft, QueueOverflow, QueueStarved}
 use Rattle.esa_model.specs.Recorded.{Recorded, with_accesses}
@@ -54,17 +51,6 @@ find-here f n m inside none passes =
     ∙ ap (λ (o : Option ℕ). option_or o (find f (range_with_len n (suc (m - suc n))))) none
     ∙ ap (λ (c : Bool). cond c (Some n) (find f (range_with_len (n + 1) (m - suc n)))) passes
 
--- a list of numbers in two parts
-pub range-add : (a m n : ℕ) → range_with_len a (m + n) ≡ range_with_len a m ++ range_with_len (a + m) n
-range-add a m zero = ap (range_with_len a) (add-zero m) ∙ sym (append-nil (range_with_len a m))
-range-add a m (suc n) =
-    let next : m + suc n ≡ suc (m + n) = omega arith in
-    let last : a + (m + n) ≡ a + m + n = omega arith in
-    ap (range_with_len a) next ∙ range-suc a (m + n) ∙ ap (λ (l : List ℕ). l ++ (a + (m + n)) ∷ []) (range-add a m n)
-    ∙ append_assoc (range_with_len a m) (range_with_len (a + m) n) ((a + (m + n)) ∷ [])
-    ∙ ap (λ (k : ℕ). range_with_len a m ++ (range_with_len (a + m) n ++ k ∷ [])) last
-    ∙ ap (λ (l : List ℕ). range_with_len a m ++ l) (sym (range-suc (a + m) n))
-
 pub bad-is : (v : Verdict) → v ≢ Good → is_good v ≡ false
 bad-is Good bad = absurd (bad refl)
 bad-is (StashOverflow j) bad = refl
@@ -79,10 +65,6 @@ only-verdict (StashLeft i) = refl
 only-verdict (QueueOverflow i) = refl
 only-verdict (QueueStarved j) = refl
 
-no-more : (c : Bool) → cond {A = List Access} c [] [] ≡ []
-no-more true = refl
-no-more false = refl
-
 module _ (p : Sizes) (d : Draw) (a : ℕ) where
   pub made-none : (at : Recorded) → AreMade p d a [] Good at at
   made-none at = record { ends = refl; traced = with-none at }
@@ -91,7 +73,7 @@ module _ (p : Sizes) (d : Draw) (a : ℕ) where
       → AreMade p d a (x ∷ []) v old new
   made-one x v old new is more = record {
     ends = is ∙ sym (only-verdict (step_verdict p d x));
-    traced = more ∙ ap (with_accesses old) (sym (ap (λ (l : List Access). step_accesses p d a x ++ l) (no-more (is_good (step_verdict p d x))) ∙ append-nil (step_accesses p d a x)));
+    traced = more ∙ ap (with_accesses old) (sym (walk-one p d a x));
   }
 
   pub made-more : (xs ys : List Step) (v : Verdict) (old mid new : Recorded) → AreMade p d a xs Good old mid → AreMade p d a ys v mid new
@@ -160,20 +142,5 @@ module _ (p : Sizes) (d : Draw) (a : ℕ) where
       subst (λ (xs : List Step). AreMade p d a xs v old new) (sym is)
       (made-bad (flat_map (steps_of p) (below n)) (flat_map (steps_of p) (range_with_len n (m - n))) v old new bad made)
 
--- imports only go on
-pub imported-rises : (p : Sizes) (j : ℕ) → 1 ≤ p.w → imported p j ≤ imported p (suc j)
-imported-rises p zero some = omega arith
-imported-rises p (suc j) some = omega arith
-
-pub imported-le : (p : Sizes) (j : ℕ) → imported p j ≤ p.b
-imported-le p zero = omega arith
-imported-le p (suc j) = omega arith
-
 pub grows-more : (old mid new : Recorded) (m n : ℕ) → Grows old mid m → Grows mid new n → Grows old new (m + n)
 grows-more old mid new m n one other = record { room = other.room ∙ one.room; few = omega (arith, one.few, other.few) }
-
--- an import reads the chunks and the tail
-pub length-import : (p : Sizes) (a i : ℕ) → length (import_reads p a i) ≡ p.b + 1
-length-import p a i =
-    length-append (map (read_chunk p a i) (below p.b)) (access_of p a Reads (at Tail i) ∷ [])
-    ∙ ap (λ (n : ℕ). n + 1) (length-map (below p.b) (read_chunk p a i) ∙ length-range_with_len 0 p.b)

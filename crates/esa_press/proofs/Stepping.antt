@@ -1,29 +1,29 @@
 -- The steps of a compression, one after another.
-use Rattle.std.proofs.Common.{◌≡◌, ℕ, zero, suc, ◌+◌, ◌-◌, ◌<◌, ◌≤◌, Bool, true, false, cond, List, [], ◌∷◌, ◌++◌, length, take, drop, map, sum, Option, Result, Ok, Err, refl, sym, ap, ◌∙◌, subst, arith, append-nil, append_assoc, length-append, length-drop, add-zero, OnOk}
+use Rattle.std.proofs.Common.{◌≡◌, ℕ, suc, ◌+◌, ◌-◌, ◌<◌, ◌≤◌, Bool, false, cond, List, [], ◌∷◌, ◌++◌, length, take, drop, map, sum, Option, Result, Ok, Err, refl, sym, ap, ◌∙◌, subst, arith, append-nil, append_assoc, length-append, length-drop, OnOk}
 use Rattle.std.specs.Prelude.{nat_lt}
 use Rattle.std.proofs.lemmas.Bool.{lt-ltb, le-ltb}
 use Rattle.std.specs.List.{range_with_len}
 use Rattle.std.specs.List.{flat_map}
 use Rattle.std.proofs.lemmas.Grind.{flat_map-append}
-use Rattle.esa_laws.proofs.Ranges.{below-add, below-add-one, range-suc}
+use Rattle.esa_laws.proofs.Ranges.{below-add, below-add-one, range-add, range-suc}
+use Rattle.esa_laws.proofs.LengthLaws.{length-import}
 use Rattle.esa_laws.proofs.SizeLaws.{first-more}
-use Rattle.std.proofs.lemmas.List.{length-take-le, length-map, map-append, take-append-drop, take_all}
-use Rattle.std.proofs.lemmas.List.FromFn.{length-range_with_len}
+use Rattle.std.proofs.lemmas.List.{length-take-le, map-append, take-append-drop, take_all}
 use Rattle.esa_compress.proofs.ImportLaws.{few-reached, import-counted, put-counted, waiting-more}
 use Rattle.esa_compress.specs.Imported.{parts_of}
 use Rattle.esa_device.specs.Recording.{Recorded}
 use Rattle.esa_envelope.specs.declared.keys.Keys.{Keys}
 use Rattle.esa_spec.specs.Fronts.{items_in}
-use Rattle.esa_laws.proofs.WalkLaws.{steps_verdict, steps_verdict-append, walk-append}
+use Rattle.esa_laws.proofs.WalkLaws.{steps_verdict, steps_verdict-append, walk-append, walk-one}
 use Rattle.esa_params.specs.Sizes.{Sizes, below, first, size}
 use Rattle.esa_params.specs.Slots.{access_of, at}
 use Rattle.esa_params.specs.declared.slot.Access.{Access}
 use Rattle.esa_params.specs.declared.slot.Op.{Op}
-use Rattle.esa_params.specs.declared.slot.Op.TheVariants.{Read as Reads, Write as Writes}
-use Rattle.esa_params.specs.declared.slot.Region.TheVariants.{Output, Tail}
+use Rattle.esa_params.specs.declared.slot.Op.TheVariants.{Write as Writes}
+use Rattle.esa_params.specs.declared.slot.Region.TheVariants.{Output}
 use Rattle.esa_report.specs.declared.item.Item.{Item}
 use Rattle.esa_spec.specs.Draws.{Draw}
-use Rattle.esa_spec.specs.Traces.{import_reads, read_chunk, step_accesses, walk}
+use Rattle.esa_spec.specs.Traces.{import_reads, walk}
 use Rattle.esa_spec.specs.Turns.{order}
 use Rattle.esa_spec.specs.Verdicts.{Step, Import, Put, first_bad, imported, is_good, reached, step_verdict, steps_of}
 use Rattle.esa_spec.specs.declared.event.Verdict.{Verdict}
@@ -38,30 +38,6 @@ use Rattle.esa_press.specs.declared.halt.Halt.{Halt}
 use Rattle.esa_press.specs.declared.halt.Halt.TheVariants as halt
 use Rattle.esa_press.proofs.Counting.{part_items, parts_sum}
 use Rattle.esa_press.proofs.Fetching.{one_read_more, read_part}
-
-no-more : (c : Bool) → cond {A = List Access} c [] [] ≡ []
-no-more true = refl
-no-more false = refl
-
--- a list of numbers in two parts
-range-add : (a m n : ℕ) → range_with_len a (m + n) ≡ range_with_len a m ++ range_with_len (a + m) n
-range-add a m zero = ap (range_with_len a) (add-zero m) ∙ sym (append-nil (range_with_len a m))
-range-add a m (suc n) =
-    let next : m + suc n ≡ suc (m + n) = omega arith in
-    let last : a + (m + n) ≡ a + m + n = omega arith in
-    ap (range_with_len a) next ∙ range-suc a (m + n) ∙ ap (λ (l : List ℕ). l ++ (a + (m + n)) ∷ []) (range-add a m n)
-    ∙ append_assoc (range_with_len a m) (range_with_len (a + m) n) ((a + (m + n)) ∷ [])
-    ∙ ap (λ (k : ℕ). range_with_len a m ++ (range_with_len (a + m) n ++ k ∷ [])) last
-    ∙ ap (λ (l : List ℕ). range_with_len a m ++ l) (sym (range-suc (a + m) n))
-
-length-reads : (p : Sizes) (a i : ℕ) → length (import_reads p a i) ≡ p.b + 1
-length-reads p a i =
-    length-append (map (read_chunk p a i) (below p.b)) (access_of p a Reads (at Tail i) ∷ [])
-    ∙ ap (λ (n : ℕ). n + 1) (length-map (below p.b) (read_chunk p a i) ∙ length-range_with_len 0 p.b)
-
--- the accesses of one step
-walk-one : (p : Sizes) (d : Draw) (a : ℕ) (x : Step) → walk p d a (x ∷ []) ≡ step_accesses p d a x
-walk-one p d a x = ap (λ (l : List Access). step_accesses p d a x ++ l) (no-more (is_good (step_verdict p d x))) ∙ append-nil (step_accesses p d a x)
 
 module _ {V : Type 0} (faults : V → ℕ) (p : Sizes) (keys : Keys) (d : Draw) (a : ℕ) where
   module _ (o : List ℕ) where
@@ -143,7 +119,7 @@ module _ {V : Type 0} (faults : V → ℕ) (p : Sizes) (keys : Keys) (d : Draw) 
 
     whole : (made : ℕ) → made ≡ p.b + 1 → take made reads ≡ walk p d a (Import j i ∷ [])
     whole made all =
-        ap (λ (n : ℕ). take n reads) all ∙ take_all (p.b + 1) reads (omega (arith, length-reads p a i)) ∙ sym (walk-one p d a (Import j i))
+        ap (λ (n : ℕ). take n reads) all ∙ take_all (p.b + 1) reads (omega (arith, length-import p a i)) ∙ sym (walk-one p d a (Import j i))
 
     cut : (x : ℕ) → x < p.b + 1 → walk p d a (Import j i ∷ []) ≡ take x reads ++ read_part p a i x ∷ drop (x + 1) reads
     cut x inside =
@@ -266,7 +242,7 @@ fetch_totals : {V T : Type 0} (faults : V → ℕ) (p : Sizes) (keys : Keys) (a 
 fetch_totals faults p keys a i counts old new result fetched =
     let few = fetched.few in
     let room = fetched.room in
-    let some = length-take-le fetched.made (import_reads p a i) (omega (arith, few, length-reads p a i)) in
+    let some = length-take-le fetched.made (import_reads p a i) (omega (arith, few, length-import p a i)) in
     let long = ap length fetched.trace ∙ length-append old.trace (take fetched.made (import_reads p a i)) in
     omega (arith, room, some, long)
 
@@ -336,15 +312,6 @@ put_waits told faults last_call p d keys a j queue rest old new n (Ok done) answ
     let left = ap length answer.1 ∙ length-drop (size p j) queue in
     (omega (arith, enough, next, put, waits), omega (arith, enough, next, put, waits, left))
 put_waits told faults last_call p d keys a j queue rest old new n (Err stop) answer put waits = tt
-
--- imports only go on
-pub imported_rises : (p : Sizes) (j : ℕ) → 1 ≤ p.w → imported p j ≤ imported p (suc j)
-imported_rises p zero some = omega arith
-imported_rises p (suc j) some = omega arith
-
-pub imported_few : (p : Sizes) (j : ℕ) → imported p j ≤ p.b
-imported_few p zero = omega arith
-imported_few p (suc j) = omega arith
 
 -- one output bucket more
 module _ {V : Type 0} (faults : V → ℕ) (p : Sizes) (keys : Keys) (d : Draw) (o : List ℕ) (a : ℕ) where

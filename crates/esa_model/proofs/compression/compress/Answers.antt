@@ -6,7 +6,8 @@ use Rattle.esa_laws.proofs.WalkLaws.{reached-zero}
 use Rattle.esa_spec.specs.Verdicts.{imported, steps_of}
 use Rattle.esa_spec.specs.declared.event.Verdict.TheVariants.{Good}
 use Rattle.esa_model.specs.Walked.{AreMade}
-use Rattle.esa_model.proofs.StepLemmas.{bad-is, made-none, made-output, made-outputs_bad, imported-rises, imported-le}
+use Rattle.esa_model.proofs.StepLemmas.{bad-is, made-none, made-output, made-outputs_bad}
+use Rattle.esa_laws.proofs.LengthLaws.{imported-few, imported-rises}
 use Rattle.esa_model.proofs.compression.compress.Goals as goal
 
 pub loop-output-init : goal.loop-output-init
@@ -25,8 +26,8 @@ put_out-requires-clause-room c =
     let inv = c.loop-output.invariant in
     let k = imported p j in
     let m = imported p (suc j) - k in
-    let rises = imported-rises p j c.requires.planned.parameters.w_least in
-    let within : k + m ≤ p.b = omega (arith, rises, imported-le p (suc j)) in
+    let rises = imported-rises p j in
+    let within : k + m ≤ p.b = omega (arith, rises, imported-few p (suc j)) in
     let both = add-mul k m (p.b + 1) in
     let all = mul-le-mul_right {m = k + m} {n = p.b} (p.b + 1) within in
     let inside : j < p.b = omega (arith, c.loop-output-test.true, c.b-output-end.ensures.value) in
@@ -53,7 +54,7 @@ loop-output-preserved c =
     let inv = c.loop-output.invariant in
     let k = imported p j in
     let m = imported p (suc j) - k in
-    let rises = imported-rises p j c.requires.planned.parameters.w_least in
+    let rises = imported-rises p j in
     let both = add-mul k m (p.b + 1) in
     let sum : k + m ≡ imported p (j + 1) = omega (arith, rises, ap (imported p) (add-one j)) in
     let product = ap (λ (n : ℕ). n * (p.b + 1)) sum in

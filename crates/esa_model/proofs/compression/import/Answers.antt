@@ -6,7 +6,8 @@ use Rattle.esa_spec.specs.Traces.{import_reads}
 use Rattle.esa_spec.specs.Verdicts.{Import, reached}
 use Rattle.esa_spec.specs.declared.event.Verdict.TheVariants.{Good, QueueOverflow}
 use Rattle.esa_model.specs.Recorded.{Recorded}
-use Rattle.esa_model.proofs.StepLemmas.{made-one, length-import}
+use Rattle.esa_laws.proofs.LengthLaws.{length-import}
+use Rattle.esa_model.proofs.StepLemmas.{made-one}
 use Rattle.esa_model.proofs.compression.import.Goals as goal
 
 pub overflow_add-window : goal.overflow_add-window

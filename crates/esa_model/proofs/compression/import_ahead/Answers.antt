@@ -5,7 +5,8 @@ use Rattle.std.proofs.Math.Nat.{mul-le-mul_right}
 use Rattle.esa_spec.specs.Verdicts.{Import, imported}
 use Rattle.esa_spec.specs.declared.event.Verdict.TheVariants.{Good}
 use Rattle.esa_model.specs.Walked.{AreMade, Grows}
-use Rattle.esa_model.proofs.StepLemmas.{bad-is, made-import, made-imports_bad, imported-rises}
+use Rattle.esa_model.proofs.StepLemmas.{bad-is, made-import, made-imports_bad}
+use Rattle.esa_laws.proofs.LengthLaws.{imported-rises}
 use Rattle.esa_model.proofs.compression.import_ahead.Goals as goal
 
 pub returns-in_default : goal.returns-in_default
@@ -72,7 +73,7 @@ returns-clause-made c d arrived reached =
     let from = c.args.window.now.imported in
     let inv = c.loop-ahead.invariant in
     let last : min (c.args.output + p.w) p.b ≡ c.min-end.result = omega (arith, c.min-end.ensures, c.w.ensures.value, c.b.ensures.value) in
-    let rises : from ≤ c.min-end.result = omega (arith, imported-rises p c.args.output c.requires.planned.parameters.w_least, c.requires.imported, last) in
+    let rises : from ≤ c.min-end.result = omega (arith, imported-rises p c.args.output, c.requires.imported, last) in
     let whole : c.loop-ahead._ahead - from ≡ imported p (suc c.args.output) - from = omega (arith, rises, c.loop-ahead-test.false, last, inv.from, c.loop-ahead.auto._ahead-end) in
     subst (λ (s : ℕ). AreMade p d c.args.attempt (map (Import c.args.output) (range_with_len s (imported p (suc c.args.output) - s))) Good c.args.trace.now c.loop-ahead.trace) c.requires.imported
     (subst (λ (m : ℕ). AreMade p d c.args.attempt (map (Import c.args.output) (range_with_len from m)) Good c.args.trace.now c.loop-ahead.trace) whole (inv.made d arrived reached))

@@ -10,7 +10,8 @@ use Rattle.esa_spec.specs.Turns.{order}
 use Rattle.esa_spec.specs.Verdicts.{imported, reached, steps_of}
 use Rattle.esa_press.specs.Pressed.{Pressed}
 use Rattle.esa_press.specs.Stepped.{AreMade}
-use Rattle.esa_press.proofs.Stepping.{imported_few, imported_rises, made_none, made_output, made_outputs_bad}
+use Rattle.esa_press.proofs.Stepping.{made_none, made_output, made_outputs_bad}
+use Rattle.esa_laws.proofs.LengthLaws.{imported-few, imported-rises}
 use Rattle.esa_press.proofs.Storing.{Puts, input_pressed, pressing_faithful, pressing_read, pressing_then, put_none, stops_with}
 use Rattle.esa_press.proofs.Fetching.{reads_none}
 use Rattle.esa_press.specs.Contents.{ArePut}
@@ -115,11 +116,10 @@ put_out-requires-clause-room g c =
     let same : c.loop-output.floor.plan.b ≡ p.b = ap (λ (f : Parts _). f.plan.b) inv.floor in
     let plan_is : c.plan-plan.result ≡ p = c.plan-plan.ensures ∙ c.requires.plan in
     let end_is : c.min-end.result ≡ imported p (suc j) = omega (arith, c.min-end.ensures, c.w.ensures.value, c.b.ensures.value, ap (λ (q : Sizes). q.w) plan_is, ap (λ (q : Sizes). q.b) plan_is) in
-    let least : 1 ≤ p.w = omega (arith, c.w.ensures.limits.parameters.w_least, ap (λ (q : Sizes). q.w) plan_is) in
-    let rises = imported_rises p j least in
+    let rises = imported-rises p j in
     let m = c.min-end.result - c.loop-output.from in
     let inside : j < p.b = omega (arith, c.loop-output-test.true, c.b-output-end.ensures.value, ap (λ (q : Sizes). q.b) plan_is) in
-    let within : c.loop-output.from + m ≤ p.b = omega (arith, rises, imported_few p (suc j), inv.from, end_is) in
+    let within : c.loop-output.from + m ≤ p.b = omega (arith, rises, imported-few p (suc j), inv.from, end_is) in
     let both = add-mul c.loop-output.from m (p.b + 1) in
     let all = mul-le-mul_right {m = c.loop-output.from + m} {n = p.b} (p.b + 1) within in
     let own = ap (λ (n : ℕ). m * (n + 1)) same in
@@ -154,8 +154,7 @@ loop-output-preserved g c =
     let same : c.loop-output.floor.plan.b ≡ p.b = ap (λ (f : Parts _). f.plan.b) inv.floor in
     let plan_is : c.plan-plan.result ≡ p = c.plan-plan.ensures ∙ c.requires.plan in
     let end_is : c.min-end.result ≡ imported p (suc j) = omega (arith, c.min-end.ensures, c.w.ensures.value, c.b.ensures.value, ap (λ (q : Sizes). q.w) plan_is, ap (λ (q : Sizes). q.b) plan_is) in
-    let least : 1 ≤ p.w = omega (arith, c.w.ensures.limits.parameters.w_least, ap (λ (q : Sizes). q.w) plan_is) in
-    let rises = imported_rises p j least in
+    let rises = imported-rises p j in
     let m = c.min-end.result - c.loop-output.from in
     let sum_is : c.loop-output.from + m ≡ c.min-end.result = omega (arith, rises, inv.from, end_is) in
     let both = add-mul c.loop-output.from m (p.b + 1) in
