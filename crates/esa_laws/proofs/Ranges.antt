@@ -1,5 +1,5 @@
 -- Lists made from ranges of numbers: one number more, and functions that agree on a range.
-use Rattle.std.proofs.Common.{◌≡◌, ℕ, zero, suc, ◌+◌, ◌<◌, Bool, cond, [], ◌∷◌, ◌++◌, map, refl, sym, ◌∙◌, ap, add-one, arith, add-zero, append-nil, append_assoc}
+use Rattle.std.proofs.Common.{◌≡◌, ℕ, zero, suc, ◌+◌, ◌<◌, Bool, cond, List, [], ◌∷◌, ◌++◌, map, refl, sym, ◌∙◌, ap, add-one, arith, add-zero, append-nil, append_assoc}
 use Rattle.std.specs.List.{range_with_len, sum_by, count_by, find}
 use Rattle.std.specs.Prelude.{Some, None}
 use Rattle.std.specs.Option.{option_or}

@@ -106,7 +106,15 @@ fn put<V: Device>(
         }
     }
     let mut sealed = vec![in alloc; 0; length]?;
-    put_block(recorder, plan, &prepare(&run_keys()), slot, 1, &text, &mut sealed)?;
+    put_block(
+        recorder,
+        plan,
+        &prepare(&run_keys()),
+        slot,
+        1,
+        &text,
+        &mut sealed,
+    )?;
     Ok(())
 }
 

@@ -43,7 +43,14 @@ fn dummies(alloc: Global, plan: &Plan, slot: Slot, attempt: u32) -> Result<Vec<u
     let length = plan.block_length(slot) as usize;
     let text = vec![in alloc; 0; length - 40]?;
     let mut sealed = vec![in alloc; 0; length]?;
-    seal_block(plan, &prepare(&run_keys()), slot, attempt, &text, &mut sealed);
+    seal_block(
+        plan,
+        &prepare(&run_keys()),
+        slot,
+        attempt,
+        &text,
+        &mut sealed,
+    );
     Ok(sealed)
 }
 
