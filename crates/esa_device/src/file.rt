@@ -116,14 +116,16 @@ fn whole_length(plan: &Plan) -> u64
     plan.offset(last) + u64::from(plan.length(last))
 }
 
-// Makes the file anew, of this many zero bytes.
+// Makes the file anew, of this many zero bytes. It is locked until it is closed, and left alone where another device has
+// it locked.
 fn open<R: Files<File = File>>(rt: &R, path: &str, length: u64) -> io::Result<File> {
     let file = OpenOptions::new()
         .read(true)
         .write(true)
         .create(true)
-        .truncate(true)
         .open(rt, path)?;
+    file.try_lock()?;
+    file.set_len(0)?;
     file.set_len(length)?;
     Ok(file)
 }

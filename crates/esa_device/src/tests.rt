@@ -195,10 +195,28 @@ fn laid_anew(rt: HostRuntime) -> Result<(), Fail> {
     let mut recorder = on_file(rt.clone()?, name)?;
     recorder.ready(&base()?)?;
     let _ = write_each(&rt, &mut recorder)?;
+    drop(recorder);
     let mut recorder = on_file(rt.clone()?, name)?;
     recorder.ready(&base()?)?;
     recorder.ready(&base()?)?;
     give_zeros(&rt, &mut recorder)?;
+    fs::remove_file(&rt, name)?;
+    Ok(())
+}
+
+// While one device is laid over a file another can't be, and the blocks of the first stay; once it is gone, it can.
+#[test]
+fn laid_by_one_at_a_time(rt: HostRuntime) -> Result<(), Fail> {
+    let name = "esa-device-test-shared";
+    let mut first = on_file(rt.clone()?, name)?;
+    let mut second = on_file(rt.clone()?, name)?;
+    first.ready(&base()?)?;
+    let blocks = write_each(&rt, &mut first)?;
+    assert_eq!(rt; second.ready(&base()?), Err(LayRefused::Failed));
+    give_each(&rt, &mut first, &blocks)?;
+    drop(first);
+    second.ready(&base()?)?;
+    give_zeros(&rt, &mut second)?;
     fs::remove_file(&rt, name)?;
     Ok(())
 }
