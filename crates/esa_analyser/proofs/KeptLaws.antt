@@ -65,11 +65,11 @@ rising_behind before (row ∷ rows) below sorted =
     let parts = and_parts (finite.Entries.below_all by_bytes row.0 rows) (finite.is_sorted by_bytes rows) sorted in
     ((and_parts (is_lt (by_bytes before row.0)) (finite.Entries.below_all by_bytes before rows) below).0, rising_behind row.0 rows parts.0 parts.1)
 
-holds : (b : Bool) → T b → b ≡ true
+pub holds : (b : Bool) → T b → b ≡ true
 holds true h = refl
 holds false h = absurd h
 
-rising : (rows : List (List ℕ × ℕ)) → finite.is_sorted by_bytes rows ≡ true → AreRising None rows
+pub rising : (rows : List (List ℕ × ℕ)) → finite.is_sorted by_bytes rows ≡ true → AreRising None rows
 rising [] sorted = tt
 rising (row ∷ rows) sorted =
     let parts = and_parts (finite.Entries.below_all by_bytes row.0 rows) (finite.is_sorted by_bytes rows) sorted in

@@ -5,7 +5,7 @@ use Rattle.std.proofs.Math.Nat.{mod-eq_of_lt}
 use Rattle.std.proofs.lemmas.Bool.{cases_lt, cases_eq}
 use Rattle.std.proofs.lemmas.List.{get_or_at}
 use Rattle.esa_laws.proofs.Events.{event-by, event-past}
-use Rattle.esa_laws.proofs.FinishLaws.{AllBelow, no_turns}
+use Rattle.esa_laws.proofs.FinishLaws.{AllBelow, none-open}
 use Rattle.esa_laws.proofs.RoundLaws.{by_pushes, rounds, Stands, unclaimed, in_round, complete, writes_of, next-by_phase, other-phase, claims-start, claims-inside, new-held}
 use Rattle.esa_laws.proofs.Sums.{sum-below-each}
 use Rattle.esa_laws.proofs.Tests.{equal}
@@ -86,21 +86,8 @@ pub each-found : (b : ℕ) (h : List ℕ) → EachFound b h
 each-found b h = by_pushes (EachFound b) (λ x x_in is. absurd (omega arith)) (found-step b) h
 
 -- then no bucket of the plan is open
-module _ (b w : ℕ) (h : List ℕ) (some : 1 ≤ w) (all : AllBelow w h) (none : (v : ℕ) → v < w → Found_none b h v) where
-  wrote-by : (j : ℕ) → j < b → Stands b h j → writes_of b h j ≡ b
-  wrote-by j j_in (unclaimed late exchanged written) = let first = (none 0 some).claimed in absurd (omega (arith, first))
-  wrote-by j j_in (in_round v inside holds exchanged written) = ⊎_elim
-      (λ (worker : v < w). let past = (none v worker).past inside in absurd (omega (arith, past, holds)))
-      (λ (past : w ≤ v).
-      let positive : 0 < b + 3 = omega arith in
-      absurd (inside (ap (λ y. y % (b + 3)) (no_turns w v h all past) ∙ mod-eq_of_lt positive)))
-      (cases_lt v w)
-  wrote-by j j_in (complete claimed free exchanged written) = written
-
-  pub all-wrote : writes b h ≡ b * b
-  all-wrote = total-writes b h ∙ sum-below-each (writes_of b h) b b (λ j j_in. wrote-by j j_in ((rounds b h).stands j j_in))
-
 pub done-written : (b w : ℕ) (h : List ℕ) → 1 ≤ w → AllBelow w h
     → ((v : ℕ) → v < w → (x : ℕ) × (x < length h) × (slice_index h x ≡ v) × (event_at b h x ≡ Done)) → writes b h ≡ b * b
-done-written b w h some all each = all-wrote b w h some all
-    (λ v v_in. let t = each v v_in in subst (Found_none b h) t.2 (each-found b h t.0 t.1 t.3))
+done-written b w h some all each =
+    let none : (v : ℕ) → v < w → Found_none b h v = λ v worker. let t = each v worker in subst (Found_none b h) t.2 (each-found b h t.0 t.1 t.3) in
+    none-open b w h all (none 0 some).claimed (λ v worker inside. (none v worker).past inside)

@@ -74,49 +74,46 @@ no_turns w v (x ∷ xs) all past =
     let other = unequal x v (λ e. absurd (omega arith)) in
     omega (arith, sum_by-cons (λ u. bit (u == v)) x xs, ap bit other, no_turns w v xs (All-tail w x xs all) past)
 
--- where each worker had b rounds, all chunks are written
-module _ (b w : ℕ) (h : List ℕ) (some : 1 ≤ w) (all : AllBelow w h) (enough : (v : ℕ) → v < w → b * (b + 3) ≤ turns_of v h) where
+-- where all buckets are claimed, and each round in which a worker stands has none, all chunks are written
+module _ (b w : ℕ) (h : List ℕ) (all : AllBelow w h) (claimed : b ≤ claims b h) (past : (v : ℕ) → v < w → next_phase b h v ≢ 0 → b ≤ held b h v) where
   written-by : (j : ℕ) → j < b → Stands b h j → writes_of b h j ≡ b
-  written-by j j_in (unclaimed late none unwritten) =
+  written-by j j_in (unclaimed late none unwritten) = absurd (omega (arith, claimed, late, j_in))
+  written-by j j_in (in_round v inside holds exchanged written) = ⊎_elim
+      (λ (worker : v < w). absurd (omega (arith, past v worker inside, holds, j_in)))
+      (λ (other : w ≤ v).
+      let positive : 0 < b + 3 = omega arith in
+      absurd (inside (ap (λ y. y % (b + 3)) (no_turns w v h all other) ∙ mod-eq_of_lt positive)))
+      (cases_lt v w)
+  written-by j j_in (complete all_claimed free exchanged written) = written
+
+  pub none-open : writes b h ≡ b * b
+  none-open = total-writes b h ∙ sum-below-each (writes_of b h) b b (λ j j_in. written-by j j_in ((rounds b h).stands j j_in))
+
+-- so it is where each worker had b rounds
+module _ (b w : ℕ) (h : List ℕ) (some : 1 ≤ w) (all : AllBelow w h) (enough : (v : ℕ) → v < w → b * (b + 3) ≤ turns_of v h) where
+  all-claimed : b ≤ claims b h
+  all-claimed =
       let rounds_begun : b * (b + 3) ≤ claims b h * (b + 3) = omega (arith, (rounds b h).begun 0, enough 0 some) in
       let positive : 0 < b + 3 = omega arith in
-      absurd (omega (arith, le_of_mul-le-mul_right rounds_begun positive))
-  written-by j j_in (in_round v inside holds exchanged written) =
-      let positive : 0 < b + 3 = omega arith in
-      let worker : v < w = ⊎_elim
-      (λ (is : v < w). is)
-      (λ (past : w ≤ v). absurd (inside (ap (λ y. y % (b + 3)) (no_turns w v h all past) ∙ mod-eq_of_lt positive)))
-      (cases_lt v w) in
-      let late : turns_of v h < (held b h v + 1) * (b + 3) = (rounds b h).late v inside in
-      let many : b * (b + 3) ≤ turns_of v h = enough v worker in
-      ⊎_elim
+      le_of_mul-le-mul_right rounds_begun positive
+
+  none-held : (v : ℕ) → v < w → next_phase b h v ≢ 0 → b ≤ held b h v
+  none-held v worker inside = ⊎_elim
       (λ (early : held b h v + 1 < b + 1).
       let small : held b h v + 1 ≤ b = omega arith in
       let product : (held b h v + 1) * (b + 3) ≤ b * (b + 3) = mul-le-mul_right (b + 3) small in
-      absurd (omega (arith, product, late, many)))
-      (λ (not_early : b + 1 ≤ held b h v + 1). absurd (omega (arith, holds)))
+      absurd (omega (arith, product, (rounds b h).late v inside, enough v worker)))
+      (λ (late : b + 1 ≤ held b h v + 1). omega arith)
       (cases_lt (held b h v + 1) (b + 1))
-  written-by j j_in (complete claimed free exchanged written) = written
 
   pub all-done : writes b h ≡ b * b
-  all-done = total-writes b h ∙ sum-below-each (writes_of b h) b b (λ j j_in. written-by j j_in ((rounds b h).stands j j_in))
+  all-done = none-open b w h all all-claimed none-held
 
--- where each worker stands in a round that has no bucket, all chunks are written
-module _ (b w : ℕ) (h : List ℕ) (some : 1 ≤ w) (all : AllBelow w h) (through_with : (v : ℕ) → v < w → (next_phase b h v ≢ 0) × (b ≤ held b h v)) where
-  done-by : (j : ℕ) → j < b → Stands b h j → writes_of b h j ≡ b
-  done-by j j_in (unclaimed late none unwritten) =
-      let first = through_with 0 some in
-      absurd (omega (arith, (rounds b h).claimed 0 first.0, first.1))
-  done-by j j_in (in_round v inside holds exchanged written) = ⊎_elim
-      (λ (worker : v < w). let late = through_with v worker in absurd (omega (arith, late.1, holds)))
-      (λ (past : w ≤ v).
-      let positive : 0 < b + 3 = omega arith in
-      absurd (inside (ap (λ y. y % (b + 3)) (no_turns w v h all past) ∙ mod-eq_of_lt positive)))
-      (cases_lt v w)
-  done-by j j_in (complete claimed free exchanged written) = written
-
-  pub everybody-done : writes b h ≡ b * b
-  everybody-done = total-writes b h ∙ sum-below-each (writes_of b h) b b (λ j j_in. done-by j j_in ((rounds b h).stands j j_in))
+-- and where each worker stands in a round that has no bucket
+pub everybody-done : (b w : ℕ) (h : List ℕ) → 1 ≤ w → AllBelow w h → ((v : ℕ) → v < w → (next_phase b h v ≢ 0) × (b ≤ held b h v)) → writes b h ≡ b * b
+everybody-done b w h some all through_with =
+    let first = through_with 0 some in
+    none-open b w h all (omega (arith, (rounds b h).claimed 0 first.0, first.1)) (λ v worker inside. (through_with v worker).1)
 
 -- a worker that had b whole rounds is done
 pub done-at-last : (b : ℕ) (h : List ℕ) (v : ℕ) → turns_of v h ≡ b * (b + 3) → next b h v ≡ Done

@@ -113,9 +113,9 @@ made-le p a (Some k) es =
     let b = through-begins k es in
     omega (
       arith,
-      ap (λ y. length (filter_map (asked p a) y)) b.is,
-      ap length (filter_map-append (asked p a) (through k es) b.behind),
-      length-append (filter_map (asked p a) (through k es)) (filter_map (asked p a) b.behind),
+      ap (λ y. length (filter_map (asked p a) y)) b.1,
+      ap length (filter_map-append (asked p a) (through k es) b.0),
+      length-append (filter_map (asked p a) (through k es)) (filter_map (asked p a) b.0),
     )
 
 pub spread-le : (p : Sizes) (d : Draw) (a : ℕ) (h : List ℕ) → length (spread p d a h) ≤ p.b + p.b * p.b

@@ -332,9 +332,9 @@ fewer-through p a n k es =
     let b = through-begins k es in
     omega (
       arith,
-      ap (λ y. written n (filter_map (asked p a) y)) b.is,
-      ap (written n) (filter_map-append (asked p a) (through k es) b.behind),
-      written-append n (filter_map (asked p a) (through k es)) (filter_map (asked p a) b.behind),
+      ap (λ y. written n (filter_map (asked p a) y)) b.1,
+      ap (written n) (filter_map-append (asked p a) (through k es) b.0),
+      written-append n (filter_map (asked p a) (through k es)) (filter_map (asked p a) b.0),
     )
 
 fewer-made : (p : Sizes) (a n : ℕ) (f : Option ℕ) (es : List Event) → written n (filter_map (asked p a) (made f es)) ≤ written n (filter_map (asked p a) es)

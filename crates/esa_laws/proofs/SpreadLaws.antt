@@ -9,6 +9,7 @@ use Rattle.esa_laws.proofs.Ranges.{find-below-suc}
 use Rattle.esa_laws.proofs.LineLaws.{failing-push}
 use Rattle.esa_laws.proofs.TurnLaws.{events-push, order-push, one_of}
 use Rattle.esa_spec.specs.Draws.{Draw}
+use Rattle.esa_spec.specs.Fronts.{Begins}
 use Rattle.esa_spec.specs.Lines.{overflows}
 use Rattle.esa_spec.specs.Traces.{asked, through, made, spread}
 use Rattle.esa_spec.specs.Turns.{events, exchanged, next, order}
@@ -64,19 +65,15 @@ through-append k (Idle ∷ es) more h =
     through-other k Idle (es ++ more) refl ∙ ap (λ y. Idle ∷ y) (through-append k es more h) ∙ sym (through-other k Idle es refl)
 
 -- the events up to an exchange are a beginning of all
-pub record Begins (xs es : List Event) : Type 0 where
-  pub behind : List Event
-  pub is : es ≡ xs ++ behind
-
 passes : (k : ℕ) (e : Event) (es : List Event) → exchanged e ≡ None → Begins (through k es) es → Begins (through k (e ∷ es)) (e ∷ es)
-passes k e es other b = record { behind = b.behind; is = ap (λ y. e ∷ y) b.is ∙ sym (ap (λ y. y ++ b.behind) (through-other k e es other)) }
+passes k e es other b = (b.0, ap (λ y. e ∷ y) b.1 ∙ sym (ap (λ y. y ++ b.0) (through-other k e es other)))
 
 pub through-begins : (k : ℕ) (es : List Event) → Begins (through k es) es
-through-begins k [] = record { behind = []; is = refl }
+through-begins k [] = ([], refl)
 through-begins k (Claim j ∷ es) = passes k (Claim j) es refl (through-begins k es)
 through-begins k (Read j ∷ es) = passes k (Read j) es refl (through-begins k es)
-through-begins zero (Exchange j ∷ es) = record { behind = es; is = refl }
-through-begins (suc k) (Exchange j ∷ es) = let b = through-begins k es in record { behind = b.behind; is = ap (λ y. Exchange j ∷ y) b.is }
+through-begins zero (Exchange j ∷ es) = (es, refl)
+through-begins (suc k) (Exchange j ∷ es) = let b = through-begins k es in (b.0, ap (λ y. Exchange j ∷ y) b.1)
 through-begins k (Write j i ∷ es) = passes k (Write j i) es refl (through-begins k es)
 through-begins k (Done ∷ es) = passes k Done es refl (through-begins k es)
 through-begins k (Idle ∷ es) = passes k Idle es refl (through-begins k es)

@@ -1,7 +1,6 @@
 -- The database of what rows mean can stand in a file: its counts are no greater than the sum of all counts.
 use Rattle.std.proofs.Common.{◌≡◌, ℕ, ◌+◌, ◌-◌, ◌^◌, ◌<◌, ◌≤◌, Bool, true, false, cond, List, [], ◌∷◌, length, map, take, drop, Option, Some, None, Result, Ok, Err, Less, Equal, Greater, nat_cmp, refl, sym, ap, ◌∙◌, subst, arith}
 use Rattle.std.specs.Prelude.{All, IfOk, MatchResult, bytes_eq, flat_map, if◌then◌else◌, nat_lt, slice_index, unwrap_or, sum_by}
-use Rattle.std.proofs.Math.Dec.{T}
 use Rattle.std.specs.Option.{IfSome}
 use Rattle.std.specs.declared.cmp.Ordering.{Ordering}
 use Rattle.std.specs.Ordering.{is_eq, is_lt, eq_by_cmp}
@@ -13,6 +12,7 @@ use Rattle.std.proofs.lemmas.List.{length-map}
 use Rattle.std.proofs.lemmas.List.FromFn.{length-range_with_len}
 use Rattle.std.proofs.lemmas.List.Elements.{All-cons, All-head, All-nil, All-tail}
 use Rattle.std.proofs.lemmas.List.Sums.{sum_by-cons, sum_by-le-sum_by}
+use Rattle.esa_analyser.proofs.KeptLaws.{holds, rising}
 use Rattle.esa_params.specs.declared.form.Form.{Form}
 use Rattle.esa_params.specs.Sizes.{below}
 use Rattle.esa_shares.specs.Polynomial.{column, combined, recovered}
@@ -108,23 +108,6 @@ few-added (Some value) count n sums less =
 few-summed : (means : List ℕ → Option (List ℕ)) (rows : List (List ℕ × ℕ)) → finite.len (summed means rows) ≤ length rows
 few-summed means [] = omega (arith, finite.len-empty by_bytes ℕ)
 few-summed means (row ∷ rows) = omega (arith, few-added (means row.0) row.1 (length rows) (summed means rows) (few-summed means rows))
-
--- entries with rising keys are rising rows
-rising_behind : (before : List ℕ) (rows : List (List ℕ × ℕ)) → finite.Entries.below_all by_bytes before rows ≡ true → finite.is_sorted by_bytes rows ≡ true → AreRising (Some before) rows
-rising_behind before [] below sorted = tt
-rising_behind before (row ∷ rows) below sorted =
-    let parts = and_parts (finite.Entries.below_all by_bytes row.0 rows) (finite.is_sorted by_bytes rows) sorted in
-    ((and_parts (is_lt (by_bytes before row.0)) (finite.Entries.below_all by_bytes before rows) below).0, rising_behind row.0 rows parts.0 parts.1)
-
-holds : (b : Bool) → T b → b ≡ true
-holds true h = refl
-holds false h = absurd h
-
-rising : (rows : List (List ℕ × ℕ)) → finite.is_sorted by_bytes rows ≡ true → AreRising None rows
-rising [] sorted = tt
-rising (row ∷ rows) sorted =
-    let parts = and_parts (finite.Entries.below_all by_bytes row.0 rows) (finite.is_sorted by_bytes rows) sorted in
-    (refl, rising_behind row.0 rows parts.0 parts.1)
 
 is-less : (r : Ordering) → is_lt r ≡ true → r ≡ Less
 is-less Less less = refl
