@@ -2,16 +2,14 @@
 use Rattle.std.proofs.Common.{◌≡◌, ◌≢◌, ℕ, zero, suc, ◌+◌, ◌-◌, ◌<◌, ◌≤◌, Bool, true, List, [], ◌∷◌, ◌++◌, length, map, take, None, refl, sym, ap, ◌∙◌, subst, arith}
 use Rattle.std.specs.Prelude.{flat_map, ◌==◌, if◌then◌else◌}
 use Rattle.std.specs.List.{range_with_len}
-use Rattle.std.specs.Option.{option_to_list}
 use Rattle.std.proofs.lemmas.Bool.Decides.{nat_tests}
 use Rattle.std.proofs.lemmas.List.{map-append, take-map}
 use Rattle.std.proofs.lemmas.List.Concat.{flat_map-cons}
 use Rattle.esa_envelope.specs.declared.keys.Keys.{Keys}
 use Rattle.esa_laws.proofs.ExchangeLaws.{exchange-new, exchange_of-push}
-use Rattle.esa_laws.proofs.GrownLaws.{chunk-kept}
+use Rattle.esa_laws.proofs.GrownLaws.{chunk-kept, order-begins}
 use Rattle.esa_laws.proofs.LineLaws.{chunk-push}
 use Rattle.esa_laws.proofs.PermLaws.{occurrences, occurs-append, occurs-cons}
-use Rattle.esa_laws.proofs.TurnLaws.{order-push}
 use Rattle.esa_params.specs.Form.{envelope_length}
 use Rattle.esa_params.specs.Sizes.{Sizes, below, places_of, size}
 use Rattle.esa_report.specs.declared.item.Item.{Item}
@@ -47,15 +45,20 @@ same_lists : (f g : ℕ → List Item) (n : ℕ) → ((x : ℕ) → x < n → f 
 same_lists f g n same = same_from f g 0 n (λ x inside. same x (omega (arith, inside)))
 
 -- the chunks of a bucket stay in a longer history
+pub more_chunks : (p : Sizes) (d : Draw) (record_of : ℕ → Item) (h more : List ℕ) (j : ℕ) (held : List Item)
+    → AreChunks p d record_of (order p.b h) j held → AreChunks p d record_of (order p.b (h ++ more)) j held
+more_chunks p d record_of h more j held are = record {
+  exchanged =
+      let longer = order-begins p.b h more in
+      let counted = ap (occurrences j) longer.1 ∙ occurs-append j (order p.b h) longer.0 in
+      let some = are.exchanged in
+      omega (arith, counted, some);
+  items = are.items ∙ same_lists _ _ p.b (λ i inside. ap (λ (xs : List ℕ). padded p.c (map record_of xs)) (sym (chunk-kept p d h more j i are.exchanged)));
+}
+
 kept_chunks : (p : Sizes) (d : Draw) (record_of : ℕ → Item) (h : List ℕ) (v j : ℕ) (held : List Item)
     → AreChunks p d record_of (order p.b h) j held → AreChunks p d record_of (order p.b (h ++ v ∷ [])) j held
-kept_chunks p d record_of h v j held are = record {
-  exchanged =
-      let longer = ap (occurrences j) (order-push p.b h v) ∙ occurs-append j (order p.b h) (option_to_list (turns.exchanged (next p.b h v))) in
-      let some = are.exchanged in
-      omega (arith, longer, some);
-  items = are.items ∙ same_lists _ _ p.b (λ i inside. ap (λ (xs : List ℕ). padded p.c (map record_of xs)) (sym (chunk-kept p d h (v ∷ []) j i are.exchanged)));
-}
+kept_chunks p d record_of h v j held are = more_chunks p d record_of h (v ∷ []) j held are
 
 -- what an exchange deals
 module _ (p : Sizes) (d : Draw) (record_of : ℕ → Item) (o : List ℕ) (j : ℕ) (held : Held) (counts targets : List ℕ) (items : List Item)

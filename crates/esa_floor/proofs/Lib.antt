@@ -18,5 +18,6 @@ mod Sealing
 mod Spreading
 mod Stopping
 pub mod Storing
+pub mod Trailing
 pub mod Turning
 pub mod Writing

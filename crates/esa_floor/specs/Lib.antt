@@ -7,6 +7,7 @@ pub mod Marks
 pub mod Parts
 pub mod Private
 pub mod Standing
+pub mod Trails
 pub mod Workers
 pub mod Working
 pub mod Written

@@ -1,6 +1,7 @@
 //! A floor: what the turns of a run work on.
 
-ghost use Rattle.std.specs.Prelude.{◌≡◌, ◌≢◌, ℕ, ◌+◌, ◌-◌, ◌*◌, ◌<◌, ◌≤◌, ◌↔◌, ◌++◌, ◌∷◌, List, [], min, Some, None, IsTrue, IfOk, IfErr, IsOk, OnOk, OnErr, length, option_to_list};
+ghost use Rattle.std.specs.Prelude.{◌≡◌, ◌≢◌, ℕ, ◌+◌, ◌-◌, ◌*◌, ◌<◌, ◌≤◌, ◌↔◌, ◌++◌, ◌∷◌, List, [], min, Some, None, IsTrue, IfOk, IfErr, IsOk, OnOk, OnErr, length, map, option_to_list};
+ghost use Rattle.esa_device.specs.Logs.{Carried};
 ghost use Rattle.esa_params.specs.Sizes.{size};
 ghost use Rattle.esa_params.specs.Slots.{access_of, at, greatest_trace};
 ghost use Rattle.esa_report.specs.declared.item.Item.{Item};
@@ -251,6 +252,13 @@ impl<V: Device, G: Told> Floor<V, G> {
         ensures { result ≡ self.now.outcome }
     {
         self.outcome
+    }
+
+    /// The log of its recorder has an entry for each access. It does nothing when it runs.
+    pub fn keeps_its_log(&self)
+        ensures { map (λ (entry : Carried). entry.access) self.now.recorder.log ≡ self.now.recorder.trace }
+    {
+        self.recorder.keeps_its_log();
     }
 
     /// Whether all chunks were written.

@@ -11,6 +11,7 @@ use lib.ListN.{get_elem?}
 use Rattle.atomic_table.specs.Table.{State, Me, step, gives, rest, put_back, Allows}
 use Rattle.atomic_table.proofs.Lists.{at_set}
 use Rattle.esa_turnstile.specs.declared.view.About.{About}
+use Rattle.esa_turnstile.specs.declared.view.Mark.{Mark}
 use Rattle.esa_turnstile.specs.declared.view.Member.{Member}
 use Rattle.esa_turnstile.specs.declared.view.Sight.{Sight}
 use Rattle.esa_turnstile.specs.declared.view.Stage.{Stage}
@@ -19,27 +20,30 @@ use Rattle.esa_turnstile.specs.declared.view.View.{View}
 use Rattle.esa_turnstile.specs.Entries.{times}
 use Rattle.esa_turnstile.specs.Views.{held, ticket, is_inside, added, bears, bearers, raised, one, first_number, first_added, latest, sight_in, gone}
 use Rattle.esa_turnstile.specs.Lock.{IsCounted, IsEarlier, InStage, Fits, IsHome, IsAway, Kept}
+use Rattle.esa_turnstile.specs.Marks.{IsBelow}
 use Rattle.esa_turnstile.specs.Steps.{sight_of, Advances}
 use Rattle.esa_turnstile.proofs.Totals.{two-le-sum, times-push_same, times-push_other, none-pass}
 use Rattle.esa_turnstile.proofs.Prefixes.{prefix-length, prefix-push, prefix-refl}
 use Rattle.esa_turnstile.proofs.Looks.{same-value}
+use Rattle.esa_turnstile.proofs.Rising.{below-refl, below-trans, below-as}
 use Rattle.esa_turnstile.proofs.Rebuilt.{inside-held, inside-ticket, rebuilt}
 
 -- the marks, where one more entry is made and m is the mark then
-abbrev marks-then : (ℕ → ℕ) → ℕ → ℕ → ℕ → ℕ
+abbrev marks-then : (ℕ → Mark) → ℕ → Mark → ℕ → Mark
 marks-then marks n m i = cond (leb i n) (marks i) m
 
-then-before : (marks : ℕ → ℕ) (n m i : ℕ) → i ≤ n → marks-then marks n m i ≡ marks i
+then-before : (marks : ℕ → Mark) (n : ℕ) (m : Mark) (i : ℕ) → i ≤ n → marks-then marks n m i ≡ marks i
 then-before marks n m i le = ap (λ (b : Bool). cond b (marks i) m) (le-leb i n le)
 
-then-after : (marks : ℕ → ℕ) (n m i : ℕ) → n < i → marks-then marks n m i ≡ m
+then-after : (marks : ℕ → Mark) (n : ℕ) (m : Mark) (i : ℕ) → n < i → marks-then marks n m i ≡ m
 then-after marks n m i lt = ap (λ (b : Bool). cond b (marks i) m) (lt-leb i n lt)
 
-then-rises : (marks : ℕ → ℕ) (n m : ℕ) → ((i j : ℕ) → i ≤ j → marks i ≤ marks j) → marks n ≤ m → (i j : ℕ) → i ≤ j → Dec (i ≤ n) → Dec (j ≤ n) → marks-then marks n m i ≤ marks-then marks n m j
-then-rises marks n m rises above i j le (yes a) (yes b) = let r = rises i j le in omega (arith, then-before marks n m i a, then-before marks n m j b)
-then-rises marks n m rises above i j le (yes a) (no b) = let r = rises i n a in omega (arith, then-before marks n m i a, then-after marks n m j (omega arith))
+then-rises : (marks : ℕ → Mark) (n : ℕ) (m : Mark) → ((i j : ℕ) → i ≤ j → IsBelow (marks i) (marks j)) → IsBelow (marks n) m → (i j : ℕ) → i ≤ j → Dec (i ≤ n) → Dec (j ≤ n) → IsBelow (marks-then marks n m i) (marks-then marks n m j)
+then-rises marks n m rises above i j le (yes a) (yes b) = below-as _ _ _ _ (then-before marks n m i a) (then-before marks n m j b) (rises i j le)
+then-rises marks n m rises above i j le (yes a) (no b) =
+    below-as _ _ _ _ (then-before marks n m i a) (then-after marks n m j (omega arith)) (below-trans _ _ _ (rises i n a) above)
 then-rises marks n m rises above i j le (no a) (yes b) = absurd (omega arith)
-then-rises marks n m rises above i j le (no a) (no b) = omega (arith, then-after marks n m i (omega arith), then-after marks n m j (omega arith))
+then-rises marks n m rises above i j le (no a) (no b) = below-as _ _ _ _ (then-after marks n m i (omega arith)) (then-after marks n m j (omega arith)) (below-refl m)
 
 -- one pass has entered once more
 raised-length : (ms : List Member) → length (raised ms) ≡ length ms
@@ -61,25 +65,25 @@ single-is [] e = absurd (omega arith)
 single-is (m ∷ []) e = refl
 single-is (m ∷ k ∷ ms) e = absurd (omega arith)
 
-inside-latest : (log : List ℕ) (marks : ℕ → ℕ) (drawn : ℕ) (seen : Sight) (st : Stage) → InStage log marks drawn st → is_inside st ≡ true
+inside-latest : (log : List ℕ) (marks : ℕ → Mark) (drawn : ℕ) (seen : Sight) (st : Stage) → InStage log marks drawn st → is_inside st ≡ true
     → (length log < drawn) × ((sight_in seen st).entries ≡ log) × ((sight_in seen st).mark ≡ marks (length log))
 inside-latest log marks drawn seen Outside i e = absurd (true≢false (sym e))
 inside-latest log marks drawn seen (Waiting t) i e = absurd (true≢false (sym e))
 inside-latest log marks drawn seen (Inside s) i e = i
 
-in-stage-next : (log : List ℕ) (n : ℕ) (marks marks' : ℕ → ℕ) (drawn : ℕ) (st : Stage) → InStage log marks drawn st → (held st ≡ 1 → ticket st ≢ length log) → InStage (log ++ n ∷ []) marks' drawn st
+in-stage-next : (log : List ℕ) (n : ℕ) (marks marks' : ℕ → Mark) (drawn : ℕ) (st : Stage) → InStage log marks drawn st → (held st ≡ 1 → ticket st ≢ length log) → InStage (log ++ n ∷ []) marks' drawn st
 in-stage-next log n marks marks' drawn Outside i ne = tt
 in-stage-next log n marks marks' drawn (Waiting t) i ne = let a = i.0 in let x = ne refl in (omega (arith, length-append log (n ∷ [])), i.1)
 in-stage-next log n marks marks' drawn (Inside s) i ne = absurd (ne refl (ap length i.1))
 
-module _ {T O : Type 0} (log_of : T → List ℕ) (origin : T → O) (IsSound : T → Type 0) (mark : T → ℕ) (about : About T) where
+module _ {T O : Type 0} (log_of : T → List ℕ) (origin : T → O) (IsSound : T → Type 0) (mark : T → Mark) (about : About T) where
   abbrev St : Type 0
   St = State (Option T) (View T)
 
   abbrev K : St → Type 0
   K s = Kept log_of origin IsSound mark about s
 
-  told-again : (marks marks' : ℕ → ℕ) (o : Option (About T)) (m n : ℕ) → marks' n ≡ marks n → IfSome o (λ a. (a ≡ about) × (m ≡ marks n)) → IfSome o (λ a. (a ≡ about) × (m ≡ marks' n))
+  told-again : (marks marks' : ℕ → Mark) (o : Option (About T)) (m : Mark) (n : ℕ) → marks' n ≡ marks n → IfSome o (λ a. (a ≡ about) × (m ≡ marks n)) → IfSome o (λ a. (a ≡ about) × (m ≡ marks' n))
   told-again marks marks' None m n e h = tt
   told-again marks marks' (Some a) m n e h = (h.0, h.1 ∙ sym e)
 
@@ -92,10 +96,10 @@ module _ {T O : Type 0} (log_of : T → List ℕ) (origin : T → O) (IsSound : 
       }
 
   -- another seat, of whose passes none has the number n, and which has not the ticket that was served
-  fits-next : (log : List ℕ) (n m : ℕ) (marks : ℕ → ℕ) (drawn : ℕ) (u : View T) → Fits about log marks drawn u → bearers n u ≡ 0 → (held u.stage ≡ 1 → ticket u.stage ≢ length log)
+  fits-next : (log : List ℕ) (n : ℕ) (m : Mark) (marks : ℕ → Mark) (drawn : ℕ) (u : View T) → Fits about log marks drawn u → bearers n u ≡ 0 → (held u.stage ≡ 1 → ticket u.stage ≢ length log)
       → Fits about (log ++ n ∷ []) (marks-then marks (length log) m) drawn u
   fits-next log n m marks drawn u f none-here ne =
-      let l : ℕ = length log in let marks' : ℕ → ℕ = marks-then marks l m in let short = prefix-length u.seen.entries log f.begins in record {
+      let l : ℕ = length log in let marks' : ℕ → Mark = marks-then marks l m in let short = prefix-length u.seen.entries log f.begins in record {
         told = told-again marks marks' u.about u.seen.mark (length u.seen.entries) (then-before marks l m (length u.seen.entries) short) f.told;
         begins = prefix-push u.seen.entries log (n ∷ []) f.begins;
         heard = All-weaker (IsEarlier marks u.seen.entries) (IsEarlier marks' u.seen.entries)
@@ -122,12 +126,12 @@ module _ {T O : Type 0} (log_of : T → List ℕ) (origin : T → O) (IsSound : 
       (λ (no : is_inside u.stage ≡ false). no) (cases_Bool (is_inside u.stage))
 
   given : (s : St) (k : K s) (id n : ℕ) (v : View T) (x : T) → get_elem? s.views id ≡ some v → n ≡ length k.log → is_inside v.stage ≡ true → length v.members ≡ 1
-      → log_of x ≡ (latest v).entries ++ first_number v.members ∷ [] → IsSound x → origin x ≡ origin about.opened.value → (latest v).mark ≤ mark x
+      → log_of x ≡ (latest v).entries ++ first_number v.members ∷ [] → IsSound x → origin x ≡ origin about.opened.value → IsBelow (latest v).mark (mark x)
       → K record { words = set s.words 1 ((n + 1) % 2 ^ 64); homes = set s.homes 0 (some (Some x)); views = set s.views id (gone v (sight_of log_of mark x)) }
   given s k id n v x at is inside single log_is sound origin_is mark_is =
       let f = k.fits id v at in let log : List ℕ = k.log in let l : ℕ = length log in let d : ℕ = k.drawn in
-      let N : ℕ = first_number v.members in let A : ℕ = first_added v.members in let m : ℕ = mark x in
-      let log' : List ℕ = log ++ N ∷ [] in let marks' : ℕ → ℕ = marks-then k.marks l m in let w : View T = gone v (sight_of log_of mark x) in
+      let N : ℕ = first_number v.members in let A : ℕ = first_added v.members in let m : Mark = mark x in
+      let log' : List ℕ = log ++ N ∷ [] in let marks' : ℕ → Mark = marks-then k.marks l m in let w : View T = gone v (sight_of log_of mark x) in
       let now = inside-latest log k.marks d v.seen v.stage f.stage inside in
       let same : log_of x ≡ log' = log_is ∙ ap (λ (z : List ℕ). z ++ N ∷ []) now.1 in
       let longer : length log' ≡ l + 1 = length-append log (N ∷ []) in
@@ -150,7 +154,7 @@ module _ {T O : Type 0} (log_of : T → List ℕ) (origin : T → O) (IsSound : 
       (λ y. dite (ℕ_discrete N y)
       (λ (e : N ≡ y). subst (λ (z : ℕ). times z log' ≤ about.tickets) e (omega arith))
       (λ (ne : N ≢ y). let b = k.bounded y in omega (arith, times-push_other y log N ne)))
-      (λ i j le. then-rises k.marks l m k.rises (let q = now.2 in omega arith) i j le (dec_le i l) (dec_le j l))
+      (λ i j le. then-rises k.marks l m k.rises (below-as _ _ _ _ (sym now.2) refl mark_is) i j le (dec_le i l) (dec_le j l))
       (λ j u ne e. fits-next log N m k.marks d u (k.fits j u e) (let t = two-le-sum (bearers N) s.views j id u v ne e at in let o = k.once N in omega arith)
       (λ held_u mine. ne (k.alone j id u v e at held_u holds (mine ∙ sym turn))))
       record {
@@ -175,7 +179,7 @@ module _ {T O : Type 0} (log_of : T → List ℕ) (origin : T → O) (IsSound : 
       })
 
   pub advances : (slots id : ℕ) (me : Me (Option T) (View T)) (x : T) → is_inside me.0.stage ≡ true → me.1 ≡ (0, Some x) ∷ [] → length me.0.members ≡ 1
-      → log_of x ≡ (latest me.0).entries ++ first_number me.0.members ∷ [] → IsSound x → origin x ≡ origin about.opened.value → (latest me.0).mark ≤ mark x
+      → log_of x ≡ (latest me.0).entries ++ first_number me.0.members ∷ [] → IsSound x → origin x ≡ origin about.opened.value → IsBelow (latest me.0).mark (mark x)
       → Allows K slots id me 1 (λ n. (n + 1) % 2 ^ 64) (Advances log_of mark (step slots 1 1 0 none) me)
   advances slots id me x inside has single log_is sound origin_is mark_is s k _ at _ =
       let n : ℕ = get_or s.words 1 0 in let w : View T = gone me.0 (sight_of log_of mark x) in

@@ -1,11 +1,12 @@
 -- What is known once all passes are back in one seat.
-use Rattle.std.proofs.Common.{◌≡◌, ◌≢◌, ℕ, ◌<◌, ◌≤◌, List, length, All, Option, Some, IfSome, refl, sym, ap, ◌∙◌, subst, ⊎_elim, true≢false, arith}
+use Rattle.std.proofs.Common.{◌≡◌, ◌≢◌, ℕ, ◌<◌, List, length, All, Option, Some, IfSome, refl, sym, ap, ◌∙◌, subst, ⊎_elim, true≢false, arith}
 use Rattle.std.proofs.lemmas.List.Elements.{All-weaker, All-contains}
 use mathlib.Core.List.{IsPrefix}
 use mathlib.Core.Option.{some, some-injective}
 use lib.ListN.{get_elem?}
 use Rattle.atomic_table.specs.Table.{State, Final, Seen}
 use Rattle.esa_turnstile.specs.declared.view.About.{About}
+use Rattle.esa_turnstile.specs.declared.view.Mark.{Mark}
 use Rattle.esa_turnstile.specs.declared.view.Member.{Member}
 use Rattle.esa_turnstile.specs.declared.view.Sight.{Sight}
 use Rattle.esa_turnstile.specs.declared.view.Stage.TheVariants.{Outside}
@@ -14,17 +15,19 @@ use Rattle.esa_turnstile.specs.declared.pass.Pass.{Pass}
 use Rattle.esa_turnstile.specs.Entries.{times}
 use Rattle.esa_turnstile.specs.Views.{is_inside, members_in}
 use Rattle.esa_turnstile.specs.Lock.{IsCounted, IsEarlier, IsHome, IsAway, Kept}
+use Rattle.esa_turnstile.specs.Marks.{IsBelow}
 use Rattle.esa_turnstile.specs.Passes.{IsNewPass, member_of}
 use Rattle.esa_turnstile.specs.Closing.{Knows, IsSettled}
 use Rattle.esa_turnstile.proofs.Totals.{two-le-sum}
 use Rattle.esa_turnstile.proofs.Prefixes.{prefix-length, prefix-trans}
+use Rattle.esa_turnstile.proofs.Rising.{below-as}
 use Rattle.esa_turnstile.proofs.Rebuilt.{inside-held}
 
 module _ {T : Type 0} where
   pub new-for : (t t' m m' : ℕ) (p : Pass T) → t ≡ t' → m ≡ m' → IsNewPass t m p → IsNewPass t' m' p
   new-for t t' m m' p e f h = subst (λ (a : ℕ × ℕ). IsNewPass a.0 a.1 p) (λ i. (e i, f i)) h
 
-module _ {T O : Type 0} (log_of : T → List ℕ) (origin : T → O) (IsSound : T → Type 0) (mark : T → ℕ) (about : About T) where
+module _ {T O : Type 0} (log_of : T → List ℕ) (origin : T → O) (IsSound : T → Type 0) (mark : T → Mark) (about : About T) where
   abbrev V : Type 0
   V = View T
 
@@ -55,8 +58,8 @@ module _ {T O : Type 0} (log_of : T → List ℕ) (origin : T → O) (IsSound : 
         named = subst (All (λ (n : ℕ). n < about.passes)) (sym log_is) k.named;
         origin_is = ap origin (sym is) ∙ h.origin_is;
         sound = subst IsSound is h.sound;
-        mark_above = All-weaker (IsEarlier k.marks v.seen.entries) (λ (s : Sight). s.mark ≤ mark x)
-            (λ (s : Sight) e. let r = k.rises (length s.entries) (length k.log) (prefix-length s.entries k.log (begins s e)) in let m = e.marked in omega arith) v.heard f.heard;
+        mark_above = All-weaker (IsEarlier k.marks v.seen.entries) (λ (s : Sight). IsBelow s.mark (mark x))
+            (λ (s : Sight) e. below-as _ _ _ _ e.marked mark_is (k.rises (length s.entries) (length k.log) (prefix-length s.entries k.log (begins s e)))) v.heard f.heard;
         mark_same = All-weaker (IsEarlier k.marks v.seen.entries) (λ (s : Sight). length (log_of x) ≡ length s.entries → mark x ≡ s.mark)
             (λ (s : Sight) e same. mark_is ∙ (ap k.marks (ap length (sym log_is) ∙ same) ∙ sym e.marked)) v.heard f.heard;
       }
@@ -82,8 +85,8 @@ module _ {T O : Type 0} (log_of : T → List ℕ) (origin : T → O) (IsSound : 
   pub pass-counts : (v : V) (x : T) (p : Pass T) → IsSettled log_of origin IsSound mark about v x → Knows v p → times (member_of p).number (log_of x) ≡ (member_of p).added
   pass-counts v x p h k = All-contains (λ (m : Member). times m.number (log_of x) ≡ m.added) v.members (member_of p) h.counts k.0
 
-  pub pass-mark : (v : V) (x : T) (p : Pass T) → IsSettled log_of origin IsSound mark about v x → Knows v p → p.seat.me.0.seen.mark ≤ mark x
-  pass-mark v x p h k = All-contains (λ (s : Sight). s.mark ≤ mark x) v.heard p.seat.me.0.seen h.mark_above k.1
+  pub pass-mark : (v : V) (x : T) (p : Pass T) → IsSettled log_of origin IsSound mark about v x → Knows v p → IsBelow p.seat.me.0.seen.mark (mark x)
+  pass-mark v x p h k = All-contains (λ (s : Sight). IsBelow s.mark (mark x)) v.heard p.seat.me.0.seen h.mark_above k.1
 
   pub pass-mark_same : (v : V) (x : T) (p : Pass T) → IsSettled log_of origin IsSound mark about v x → Knows v p → length (log_of x) ≡ length p.seat.me.0.seen.entries → mark x ≡ p.seat.me.0.seen.mark
   pass-mark_same v x p h k = All-contains (λ (s : Sight). length (log_of x) ≡ length s.entries → mark x ≡ s.mark) v.heard p.seat.me.0.seen h.mark_same k.1

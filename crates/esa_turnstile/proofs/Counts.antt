@@ -18,6 +18,12 @@ found-after {T} n t v w u s alone drew got h =
     subst (λ (z : View T). times n (latest z).entries ≡ first_added z.members) (sym got)
     (own n s.entries w.members (subst (λ (z : View T). z.members ≡ one n (first_added z.members)) (sym drew) alone) h)
 
+pub counted-after : {T : Type 0} (n t : ℕ) (v w u : View T) (s : Sight) → w ≡ with_ticket v t → u ≡ entered w s → times n v.seen.entries ≡ first_added v.members
+    → times n u.seen.entries ≡ first_added u.members
+counted-after {T} n t v w u s drew got h =
+    subst (λ (z : View T). times n z.seen.entries ≡ first_added z.members) (sym got)
+    (subst (λ (z : View T). times n z.seen.entries ≡ first_added z.members) (sym drew) h)
+
 all-right : (P : Sight → Type 0) (xs ys : List Sight) → All P (xs ++ ys) → All P ys
 all-right P [] ys h = h
 all-right P (x ∷ xs) ys h = all-right P xs ys (All-tail P x (xs ++ ys) h)

@@ -7,10 +7,12 @@ use native.Mathlib.Decide.{ℕ_discrete}
 use lib.ListN.{get_elem?}
 use Rattle.atomic_table.specs.Table.{State, opening, Splits}
 use Rattle.esa_turnstile.specs.declared.view.About.{About}
+use Rattle.esa_turnstile.specs.declared.view.Mark.{Mark}
 use Rattle.esa_turnstile.specs.declared.view.Member.{Member}
 use Rattle.esa_turnstile.specs.declared.view.View.{View}
 use Rattle.esa_turnstile.specs.Views.{held_in, is_inside, added, bears, bearers, one, fresh_from, dealing, dealt, rest_of, one_of}
 use Rattle.esa_turnstile.specs.Lock.{IsCounted, IsEarlier, Fits, Kept}
+use Rattle.esa_turnstile.proofs.Rising.{below-refl}
 use Rattle.esa_turnstile.proofs.Reseated.{splits}
 
 fresh-length : (k n : ℕ) → length (fresh_from k n) ≡ n
@@ -57,7 +59,7 @@ only-one : {A : Type 0} (a b : A) (i : ℕ) → get_elem? (a ∷ []) i ≡ some 
 only-one a b zero e = some-injective a b e
 only-one a b (suc i) e = absurd (some-ne-none b (sym e))
 
-module _ {T O : Type 0} (log_of : T → List ℕ) (origin : T → O) (IsSound : T → Type 0) (mark : T → ℕ) (about : About T) where
+module _ {T O : Type 0} (log_of : T → List ℕ) (origin : T → O) (IsSound : T → Type 0) (mark : T → Mark) (about : About T) where
   abbrev V : Type 0
   V = View T
 
@@ -89,7 +91,7 @@ module _ {T O : Type 0} (log_of : T → List ℕ) (origin : T → O) (IsSound : 
     bounded = λ x. zero-le;
     whole = let l = fresh-length 0 (p - 0) in omega arith;
     once = λ x. let l = fresh-once x 0 (p - 0) in omega arith;
-    rises = λ i j le. let e : mark about.opened.value ≤ mark about.opened.value = omega arith in e;
+    rises = λ i j le. below-refl (mark about.opened.value);
     fits = λ i u e. subst (Fits about [] (λ _. mark about.opened.value) 0) (only-one v u i e) all-fit;
     slot = inl record {
       value = about.opened.value;
@@ -113,7 +115,7 @@ module _ {T O : Type 0} (log_of : T → List ℕ) (origin : T → O) (IsSound : 
   pub one-is : (k : ℕ) → k < about.passes → one_of (dealing mark about k) ≡ dealt mark about k
   one-is k lt = let m : take 1 (fresh_from k (about.passes - k)) ≡ one k 0 = ap (take 1) (fresh-step about.passes k lt) in λ i. record (dealing mark about k) { members = m i; left = about.tickets }
 
-  dealt-fits : (k : ℕ) → k < about.passes → (log : List ℕ) (marks : ℕ → ℕ) (drawn : ℕ) → Fits about log marks drawn (dealing mark about k) → Fits about log marks drawn (dealing mark about (k + 1)) × Fits about log marks drawn (dealt mark about k)
+  dealt-fits : (k : ℕ) → k < about.passes → (log : List ℕ) (marks : ℕ → Mark) (drawn : ℕ) → Fits about log marks drawn (dealing mark about k) → Fits about log marks drawn (dealing mark about (k + 1)) × Fits about log marks drawn (dealt mark about k)
   dealt-fits k lt log marks drawn f =
       let q : ℕ = about.passes - (k + 1) in let P : Member → Type 0 = IsCounted about.passes log [] in
       let all : All P (record { number = k; added = 0 } ∷ fresh_from (k + 1) q) = subst (All P) (fresh-step about.passes k lt) f.counts in (

@@ -4,6 +4,7 @@ use mathlib.Core.Option.{some, none}
 use lib.ListN.{get_elem?}
 use Rattle.atomic_table.specs.Table.{State, Me, step, keeps, Allows}
 use Rattle.esa_turnstile.specs.declared.view.About.{About}
+use Rattle.esa_turnstile.specs.declared.view.Mark.{Mark}
 use Rattle.esa_turnstile.specs.declared.view.Stage.{Stage}
 use Rattle.esa_turnstile.specs.declared.view.Stage.TheVariants.{Outside, Waiting, Inside}
 use Rattle.esa_turnstile.specs.declared.view.View.{View}
@@ -13,16 +14,16 @@ use Rattle.esa_turnstile.specs.Steps.{Draws}
 use Rattle.esa_turnstile.proofs.Totals.{at-le-sum}
 use Rattle.esa_turnstile.proofs.Rebuilt.{ticket-below, same-slot, rebuilt}
 
-in-stage-more : (log : List ℕ) (marks : ℕ → ℕ) (drawn : ℕ) (st : Stage) → InStage log marks drawn st → InStage log marks (drawn + 1) st
+in-stage-more : (log : List ℕ) (marks : ℕ → Mark) (drawn : ℕ) (st : Stage) → InStage log marks drawn st → InStage log marks (drawn + 1) st
 in-stage-more log marks drawn Outside i = tt
 in-stage-more log marks drawn (Waiting t) i = (i.0, omega (arith, i.1))
 in-stage-more log marks drawn (Inside s) i = (omega (arith, i.0), i.1, i.2)
 
-module _ {T O : Type 0} (log_of : T → List ℕ) (origin : T → O) (IsSound : T → Type 0) (mark : T → ℕ) (about : About T) where
+module _ {T O : Type 0} (log_of : T → List ℕ) (origin : T → O) (IsSound : T → Type 0) (mark : T → Mark) (about : About T) where
   abbrev K : State (Option T) (View T) → Type 0
   K s = Kept log_of origin IsSound mark about s
 
-  fits-more : (log : List ℕ) (marks : ℕ → ℕ) (drawn : ℕ) (v : View T) → Fits about log marks drawn v → Fits about log marks (drawn + 1) v
+  fits-more : (log : List ℕ) (marks : ℕ → Mark) (drawn : ℕ) (v : View T) → Fits about log marks drawn v → Fits about log marks (drawn + 1) v
   fits-more log marks drawn v f = record { told = f.told; begins = f.begins; heard = f.heard; share = f.share; counts = f.counts; single = f.single; stage = in-stage-more log marks drawn v.stage f.stage }
 
   drawn-at : (s : State (Option T) (View T)) (k : K s) (id n : ℕ) (v : View T) → get_elem? s.views id ≡ some v → v.stage ≡ Outside → length v.members ≡ 1 → 0 < v.left → n ≡ k.drawn

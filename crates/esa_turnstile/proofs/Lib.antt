@@ -1,6 +1,7 @@
 pub mod Totals
 pub mod Prefixes
 pub mod Rebuilt
+mod Rising
 pub mod Draws
 pub mod Looks
 pub mod Counts

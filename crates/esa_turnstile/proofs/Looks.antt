@@ -9,6 +9,7 @@ use lib.ListN.{get_elem?}
 use Rattle.atomic_table.specs.Table.{State, Me, step, keeps, takes, Allows}
 use Rattle.atomic_table.proofs.Lists.{set_here}
 use Rattle.esa_turnstile.specs.declared.view.About.{About}
+use Rattle.esa_turnstile.specs.declared.view.Mark.{Mark}
 use Rattle.esa_turnstile.specs.declared.view.Member.{Member}
 use Rattle.esa_turnstile.specs.declared.view.Stage.TheVariants.{Waiting}
 use Rattle.esa_turnstile.specs.declared.view.View.{View}
@@ -18,9 +19,10 @@ use Rattle.esa_turnstile.specs.Lock.{InStage, IsCounted, Fits, IsHome, IsAway, K
 use Rattle.esa_turnstile.specs.Steps.{sight_of, IsFound, Looks}
 use Rattle.esa_turnstile.proofs.Totals.{at-below}
 use Rattle.esa_turnstile.proofs.Prefixes.{prefix-length}
+use Rattle.esa_turnstile.proofs.Rising.{below-as}
 use Rattle.esa_turnstile.proofs.Rebuilt.{inside-held, inside-ticket, ticket-below, rebuilt, stays}
 
-module _ {T O : Type 0} (log_of : T → List ℕ) (origin : T → O) (IsSound : T → Type 0) (mark : T → ℕ) (about : About T) where
+module _ {T O : Type 0} (log_of : T → List ℕ) (origin : T → O) (IsSound : T → Type 0) (mark : T → Mark) (about : About T) where
   abbrev St : Type 0
   St = State (Option T) (View T)
 
@@ -36,7 +38,7 @@ module _ {T O : Type 0} (log_of : T → List ℕ) (origin : T → O) (IsSound : 
         own = All-weaker (IsCounted about.passes k.log v.seen.entries) (λ (m : Member). times m.number (log_of h.value) ≡ m.added) (λ m c. ap (times m.number) h.log_is ∙ c.in_log) v.members f.counts;
         origin_is = h.origin_is;
         sound = h.sound;
-        mark_above = let r = k.rises (length v.seen.entries) (length k.log) short in let e = h.mark_is in omega arith;
+        mark_above = below-as _ _ _ _ marked h.mark_is (k.rises (length v.seen.entries) (length k.log) short);
         mark_same = λ same. h.mark_is ∙ (ap k.marks (ap length (sym h.log_is) ∙ same) ∙ sym marked);
         named = subst (All (λ (n : ℕ). n < about.passes)) (sym h.log_is) k.named;
         bounded = λ n. subst (λ (z : List ℕ). times n z ≤ about.tickets) (sym h.log_is) (k.bounded n);

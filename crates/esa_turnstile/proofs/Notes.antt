@@ -7,6 +7,7 @@ use mathlib.Core.List.{IsPrefix}
 use mathlib.Core.Option.{none}
 use Rattle.atomic_table.specs.Table.{State, Me, step, keeps, Allows, Splits, Joins}
 use Rattle.esa_turnstile.specs.declared.view.About.{About}
+use Rattle.esa_turnstile.specs.declared.view.Mark.{Mark}
 use Rattle.esa_turnstile.specs.declared.view.Member.{Member}
 use Rattle.esa_turnstile.specs.declared.view.Sight.{Sight}
 use Rattle.esa_turnstile.specs.declared.view.Stage.TheVariants.{Outside}
@@ -14,24 +15,31 @@ use Rattle.esa_turnstile.specs.declared.view.View.{View}
 use Rattle.esa_turnstile.specs.Entries.{times}
 use Rattle.esa_turnstile.specs.Views.{held, added, bears, later, note_of, joined, spent}
 use Rattle.esa_turnstile.specs.Lock.{IsCounted, IsEarlier, Fits, Kept}
+use Rattle.esa_turnstile.specs.Marks.{IsBelow}
 use Rattle.esa_turnstile.specs.Steps.{WasHeard, Hears}
 use Rattle.esa_turnstile.proofs.Prefixes.{prefix-length, prefix-refl, prefix-trans, prefix-shorter, times-prefix}
+use Rattle.esa_turnstile.proofs.Rising.{below-as}
 use Rattle.esa_turnstile.proofs.Rebuilt.{stays}
 use Rattle.esa_turnstile.proofs.Reseated.{splits, joins}
 
 abbrev IsOne : Sight → Sight → Type 0
-IsOne s t = ((length s.entries ≤ length t.entries) × ((later s t).entries ≡ t.entries)) ⊎ ((length t.entries ≤ length s.entries) × ((later s t).entries ≡ s.entries))
+IsOne s t = ((length s.entries ≤ length t.entries) × ((later s t).entries ≡ t.entries) × ((later s t).mark.trail ≡ t.mark.trail))
+    ⊎ ((length t.entries ≤ length s.entries) × ((later s t).entries ≡ s.entries) × ((later s t).mark.trail ≡ s.mark.trail))
 
 is-one : (s t : Sight) → IsOne s t
 is-one s t = ⊎_elim
-    (λ (yes : leb (length s.entries) (length t.entries) ≡ true). inl (leb-true _ _ yes, ap (λ (b : Bool). cond b t.entries s.entries) yes))
-    (λ (no : leb (length s.entries) (length t.entries) ≡ false). inr (le_of_lt (leb-false _ _ no), ap (λ (b : Bool). cond b t.entries s.entries) no))
+    (λ (yes : leb (length s.entries) (length t.entries) ≡ true). inl (leb-true _ _ yes, ap (λ (b : Bool). cond b t.entries s.entries) yes, ap (λ (b : Bool). cond b t.mark.trail s.mark.trail) yes))
+    (λ (no : leb (length s.entries) (length t.entries) ≡ false). inr (le_of_lt (leb-false _ _ no), ap (λ (b : Bool). cond b t.entries s.entries) no, ap (λ (b : Bool). cond b t.mark.trail s.mark.trail) no))
     (cases_Bool (leb (length s.entries) (length t.entries)))
 
-later-marked : (marks : ℕ → ℕ) → ((i j : ℕ) → i ≤ j → marks i ≤ marks j) → (s t : Sight) → s.mark ≡ marks (length s.entries) → t.mark ≡ marks (length t.entries) → (later s t).mark ≡ marks (length (later s t).entries)
+later-marked : (marks : ℕ → Mark) → ((i j : ℕ) → i ≤ j → IsBelow (marks i) (marks j)) → (s t : Sight) → s.mark ≡ marks (length s.entries) → t.mark ≡ marks (length t.entries) → (later s t).mark ≡ marks (length (later s t).entries)
 later-marked marks rises s t a b = ⊎_elim
-    (λ (p : (length s.entries ≤ length t.entries) × ((later s t).entries ≡ t.entries)). let r = rises _ _ p.0 in let m : max s.mark t.mark ≡ t.mark = omega arith in m ∙ (b ∙ ap (λ (z : List ℕ). marks (length z)) (sym p.1)))
-    (λ (p : (length t.entries ≤ length s.entries) × ((later s t).entries ≡ s.entries)). let r = rises _ _ p.0 in let m : max s.mark t.mark ≡ s.mark = omega arith in m ∙ (a ∙ ap (λ (z : List ℕ). marks (length z)) (sym p.1)))
+    (λ (p : (length s.entries ≤ length t.entries) × ((later s t).entries ≡ t.entries) × ((later s t).mark.trail ≡ t.mark.trail)).
+    let r = (below-as _ _ _ _ a b (rises _ _ p.0)).number in let m : max s.mark.number t.mark.number ≡ t.mark.number = omega arith in
+    let whole : (later s t).mark ≡ t.mark = λ i. record { number = m i; trail = p.2 i } in whole ∙ (b ∙ ap (λ (z : List ℕ). marks (length z)) (sym p.1)))
+    (λ (p : (length t.entries ≤ length s.entries) × ((later s t).entries ≡ s.entries) × ((later s t).mark.trail ≡ s.mark.trail)).
+    let r = (below-as _ _ _ _ b a (rises _ _ p.0)).number in let m : max s.mark.number t.mark.number ≡ s.mark.number = omega arith in
+    let whole : (later s t).mark ≡ s.mark = λ i. record { number = m i; trail = p.2 i } in whole ∙ (a ∙ ap (λ (z : List ℕ). marks (length z)) (sym p.1)))
     (is-one s t)
 
 abbrev Between : List ℕ → Sight → Sight → List ℕ → Type 0
@@ -39,18 +47,18 @@ Between z s t log = IsPrefix z log × IsPrefix s.entries z × IsPrefix t.entries
 
 later-between : (s t : Sight) (log : List ℕ) → IsPrefix s.entries log → IsPrefix t.entries log → Between (later s t).entries s t log
 later-between s t log a b = ⊎_elim
-    (λ (p : (length s.entries ≤ length t.entries) × ((later s t).entries ≡ t.entries)). subst (λ (z : List ℕ). Between z s t log) (sym p.1) (b, prefix-shorter s.entries t.entries log a b p.0, prefix-refl t.entries))
-    (λ (p : (length t.entries ≤ length s.entries) × ((later s t).entries ≡ s.entries)). subst (λ (z : List ℕ). Between z s t log) (sym p.1) (a, prefix-refl s.entries, prefix-shorter t.entries s.entries log b a p.0))
+    (λ (p : (length s.entries ≤ length t.entries) × ((later s t).entries ≡ t.entries) × ((later s t).mark.trail ≡ t.mark.trail)). subst (λ (z : List ℕ). Between z s t log) (sym p.1) (b, prefix-shorter s.entries t.entries log a b p.0, prefix-refl t.entries))
+    (λ (p : (length t.entries ≤ length s.entries) × ((later s t).entries ≡ s.entries) × ((later s t).mark.trail ≡ s.mark.trail)). subst (λ (z : List ℕ). Between z s t log) (sym p.1) (a, prefix-refl s.entries, prefix-shorter t.entries s.entries log b a p.0))
     (is-one s t)
 
-module _ {T O : Type 0} (log_of : T → List ℕ) (origin : T → O) (IsSound : T → Type 0) (mark : T → ℕ) (about : About T) where
+module _ {T O : Type 0} (log_of : T → List ℕ) (origin : T → O) (IsSound : T → Type 0) (mark : T → Mark) (about : About T) where
   abbrev V : Type 0
   V = View T
 
   abbrev K : State (Option T) V → Type 0
   K s = Kept log_of origin IsSound mark about s
 
-  note-fits : (log : List ℕ) (marks : ℕ → ℕ) (drawn : ℕ) (v : V) → Fits about log marks drawn v → Fits about log marks drawn (note_of v)
+  note-fits : (log : List ℕ) (marks : ℕ → Mark) (drawn : ℕ) (v : V) → Fits about log marks drawn v → Fits about log marks drawn (note_of v)
   note-fits log marks drawn v f = record {
     told = f.told;
     begins = f.begins;
@@ -65,7 +73,7 @@ module _ {T O : Type 0} (log_of : T → List ℕ) (origin : T → O) (IsSound : 
   notes id v out = splits log_of origin IsSound mark about id v v (note_of v) (ap held out) (ap held out) refl (add-zero v.left) (add-zero (length v.members)) (λ x. add-zero (count_by (bears x) v.members))
       (λ log marks drawn f. (f, note-fits log marks drawn v f))
 
-  spent-fits : (log : List ℕ) (marks : ℕ → ℕ) (drawn : ℕ) → Fits about log marks drawn spent
+  spent-fits : (log : List ℕ) (marks : ℕ → Mark) (drawn : ℕ) → Fits about log marks drawn spent
   spent-fits log marks drawn = record {
     told = tt;
     begins = (log, refl);
@@ -76,7 +84,7 @@ module _ {T O : Type 0} (log_of : T → List ℕ) (origin : T → O) (IsSound : 
     stage = tt;
   }
 
-  earlier-still : (marks : ℕ → ℕ) (a b : List ℕ) (hs : List Sight) → IsPrefix a b → All (IsEarlier marks a) hs → All (IsEarlier marks b) hs
+  earlier-still : (marks : ℕ → Mark) (a b : List ℕ) (hs : List Sight) → IsPrefix a b → All (IsEarlier marks a) hs → All (IsEarlier marks b) hs
   earlier-still marks a b hs p h = All-weaker (IsEarlier marks a) (IsEarlier marks b) (λ (s : Sight) e. record { begins = prefix-trans s.entries a b e.begins p; marked = e.marked }) hs h
 
   counted-still : (log a b : List ℕ) (ms : List Member) → IsPrefix a b → IsPrefix b log → All (IsCounted about.passes log a) ms → All (IsCounted about.passes log b) ms
@@ -89,7 +97,7 @@ module _ {T O : Type 0} (log_of : T → List ℕ) (origin : T → O) (IsSound : 
   told-by : (o : Option (About T)) (P : About T → Type 0) (a : About T) → o ≡ Some a → P a → IfSome o P
   told-by o P a e h = subst (λ (z : Option (About T)). IfSome z P) (sym e) h
 
-  joined-fits : (log : List ℕ) (marks : ℕ → ℕ) (drawn : ℕ) → ((i j : ℕ) → i ≤ j → marks i ≤ marks j) → (v w : V) → v.about ≡ Some about → w.about ≡ Some about → held v.stage ≡ 0 → held w.stage ≡ 0
+  joined-fits : (log : List ℕ) (marks : ℕ → Mark) (drawn : ℕ) → ((i j : ℕ) → i ≤ j → IsBelow (marks i) (marks j)) → (v w : V) → v.about ≡ Some about → w.about ≡ Some about → held v.stage ≡ 0 → held w.stage ≡ 0
       → Fits about log marks drawn v → Fits about log marks drawn w → Fits about log marks drawn (joined v w)
   joined-fits log marks drawn rises v w av aw out out-w f g =
       let b = later-between v.seen w.seen log f.begins g.begins in let z : List ℕ = (later v.seen w.seen).entries in
@@ -124,7 +132,7 @@ module _ {T O : Type 0} (log_of : T → List ℕ) (origin : T → O) (IsSound : 
           refl,
           record {
             heard = All-weaker (IsEarlier k.marks v.seen.entries) (WasHeard v.seen)
-                (λ (h : Sight) e. record { begins = e.begins; mark = let r = k.rises _ _ (prefix-length h.entries v.seen.entries e.begins) in let m = e.marked in omega arith }) v.heard f.heard;
+                (λ (h : Sight) e. record { begins = e.begins; mark = below-as _ _ _ _ e.marked marked (k.rises _ _ (prefix-length h.entries v.seen.entries e.begins)) }) v.heard f.heard;
             counts = All-weaker (IsCounted about.passes k.log v.seen.entries) (λ (m : Member). times m.number v.seen.entries ≡ m.added) (λ (m : Member) c. c.in_seen) v.members f.counts;
           },
         ),

@@ -1,5 +1,6 @@
 -- Beginnings of a list.
-use Rattle.std.proofs.Common.{◌≡◌, ℕ, ◌+◌, ◌≤◌, List, [], ◌∷◌, ◌++◌, length, refl, sym, ap, ◌∙◌, append_assoc, append-nil, length-append, arith}
+use Rattle.std.proofs.Common.{◌≡◌, ℕ, ◌+◌, ◌≤◌, List, [], ◌∷◌, ◌++◌, length, map, refl, sym, ap, ◌∙◌, append_assoc, append-nil, length-append, arith}
+use Rattle.std.proofs.lemmas.List.{map-append}
 use Rattle.std.proofs.lemmas.List.Sums.{sum_by-append}
 use mathlib.Core.List.{IsPrefix}
 use Rattle.std.proofs.Common.{cond, eqb}
@@ -46,3 +47,9 @@ prefix-shorter (x ∷ a) (y ∷ b) c h k le =
 
 pub times-prefix : (x : ℕ) (a b : List ℕ) → IsPrefix a b → times x a ≤ times x b
 times-prefix x a b p = let e : times x (a ++ p.0) ≡ times x a + times x p.0 = sum_by-append (λ (y : ℕ). cond (eqb y x) 1 0) a p.0 in omega (arith, ap (times x) p.1)
+
+-- each entry more is a text more
+pub texts-push : (old new : List ℕ) (n : ℕ) (seen : List (List ℕ)) → seen ≡ map (λ (m : ℕ). m ∷ []) old → new ≡ old ++ n ∷ [] → IsPrefix seen (map (λ (m : ℕ). m ∷ []) new)
+texts-push old new n seen is longer =
+    let text : ℕ → List ℕ = λ m. m ∷ [] in
+    (text n ∷ [], ap (λ (l : List (List ℕ)). l ++ text n ∷ []) is ∙ sym (map-append text old (n ∷ [])) ∙ ap (map text) (sym longer))

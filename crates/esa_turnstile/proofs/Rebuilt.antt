@@ -6,12 +6,14 @@ use lib.ListN.{get_elem?}
 use Rattle.atomic_table.specs.Table.{State}
 use Rattle.atomic_table.proofs.Lists.{at_set, set_again, set_else}
 use Rattle.esa_turnstile.specs.declared.view.About.{About}
+use Rattle.esa_turnstile.specs.declared.view.Mark.{Mark}
 use Rattle.esa_turnstile.specs.declared.view.Stage.{Stage}
 use Rattle.esa_turnstile.specs.declared.view.Stage.TheVariants.{Outside, Waiting, Inside}
 use Rattle.esa_turnstile.specs.declared.view.View.{View}
 use Rattle.esa_turnstile.specs.Entries.{times}
 use Rattle.esa_turnstile.specs.Views.{held, ticket, is_inside, left_in, held_in, members_in, bearers}
 use Rattle.esa_turnstile.specs.Lock.{InStage, Fits, IsHome, IsAway, Kept}
+use Rattle.esa_turnstile.specs.Marks.{IsBelow}
 use Rattle.esa_turnstile.proofs.Totals.{sum-set}
 
 pub inside-held : (st : Stage) → is_inside st ≡ true → held st ≡ 1
@@ -24,32 +26,32 @@ outside-not_inside Outside e = refl
 outside-not_inside (Waiting t) e = absurd (omega arith)
 outside-not_inside (Inside s) e = absurd (omega arith)
 
-pub ticket-below : (log : List ℕ) (marks : ℕ → ℕ) (drawn : ℕ) (st : Stage) → InStage log marks drawn st → held st ≡ 1 → ticket st < drawn
+pub ticket-below : (log : List ℕ) (marks : ℕ → Mark) (drawn : ℕ) (st : Stage) → InStage log marks drawn st → held st ≡ 1 → ticket st < drawn
 ticket-below log marks drawn Outside i h = absurd (omega arith)
 ticket-below log marks drawn (Waiting t) i h = i.1
 ticket-below log marks drawn (Inside s) i h = let e : length s.entries ≡ length log = ap length i.1 in omega (arith, i.0)
 
 -- who is inside has the ticket that is served
-pub inside-ticket : (log : List ℕ) (marks : ℕ → ℕ) (drawn : ℕ) (st : Stage) → InStage log marks drawn st → is_inside st ≡ true → ticket st ≡ length log
+pub inside-ticket : (log : List ℕ) (marks : ℕ → Mark) (drawn : ℕ) (st : Stage) → InStage log marks drawn st → is_inside st ≡ true → ticket st ≡ length log
 inside-ticket log marks drawn Outside i h = absurd (true≢false (sym h))
 inside-ticket log marks drawn (Waiting t) i h = absurd (true≢false (sym h))
 inside-ticket log marks drawn (Inside s) i h = ap length i.1
 
-module _ {T O : Type 0} (log_of : T → List ℕ) (origin : T → O) (IsSound : T → Type 0) (mark : T → ℕ) (about : About T) where
+module _ {T O : Type 0} (log_of : T → List ℕ) (origin : T → O) (IsSound : T → Type 0) (mark : T → Mark) (about : About T) where
   abbrev pub St : Type 0
   St = State (Option T) (View T)
 
   abbrev pub K : St → Type 0
   K s = Kept log_of origin IsSound mark about s
 
-  abbrev pub Home : List ℕ → (ℕ → ℕ) → St → Type 0
+  abbrev pub Home : List ℕ → (ℕ → Mark) → St → Type 0
   Home log marks s = IsHome log_of origin IsSound mark about log marks s
 
   abbrev pub Away : St → Type 0
   Away s = IsAway log_of origin IsSound mark s
 
   -- where a seat that is not inside stays out, the slot stays where it is
-  pub same-slot : (s : St) (log : List ℕ) (marks : ℕ → ℕ) (id : ℕ) (v w : View T) (ws : List ℕ) → get_elem? s.views id ≡ some v → is_inside v.stage ≡ false → is_inside w.stage ≡ false
+  pub same-slot : (s : St) (log : List ℕ) (marks : ℕ → Mark) (id : ℕ) (v w : View T) (ws : List ℕ) → get_elem? s.views id ≡ some v → is_inside v.stage ≡ false → is_inside w.stage ≡ false
       → Home log marks s ⊎ Away s → Home log marks record { words = ws; homes = s.homes; views = set s.views id w } ⊎ Away record { words = ws; homes = s.homes; views = set s.views id w }
   same-slot s log marks id v w ws at out out' slot = ⊎_elim
       (λ (h : Home log marks s). inl record {
@@ -72,7 +74,7 @@ module _ {T O : Type 0} (log_of : T → List ℕ) (origin : T → O) (IsSound : 
       slot
 
   -- one seat's view goes from v to w, and the words, the slot and the entries change
-  pub rebuilt : (s : St) (k : K s) (id : ℕ) (v w : View T) (ws : List ℕ) (hs : List (maybe.Option (Option T))) (log : List ℕ) (marks : ℕ → ℕ) (drawn : ℕ) → get_elem? s.views id ≡ some v
+  pub rebuilt : (s : St) (k : K s) (id : ℕ) (v w : View T) (ws : List ℕ) (hs : List (maybe.Option (Option T))) (log : List ℕ) (marks : ℕ → Mark) (drawn : ℕ) → get_elem? s.views id ≡ some v
       → ws ≡ drawn ∷ length log ∷ []
       → (drawn + length k.log) + held v.stage ≡ (k.drawn + length log) + held w.stage
       → drawn + w.left ≡ k.drawn + v.left
@@ -80,7 +82,7 @@ module _ {T O : Type 0} (log_of : T → List ℕ) (origin : T → O) (IsSound : 
       → ((x : ℕ) → bearers x w ≡ bearers x v)
       → All (λ x. x < about.passes) log
       → ((x : ℕ) → times x log ≤ about.tickets)
-      → ((i j : ℕ) → i ≤ j → marks i ≤ marks j)
+      → ((i j : ℕ) → i ≤ j → IsBelow (marks i) (marks j))
       → ((j : ℕ) (u : View T) → j ≢ id → get_elem? s.views j ≡ some u → Fits about log marks drawn u)
       → Fits about log marks drawn w
       → ((j : ℕ) (u : View T) → j ≢ id → get_elem? s.views j ≡ some u → held w.stage ≡ 1 → held u.stage ≡ 1 → ticket w.stage ≢ ticket u.stage)

@@ -7,9 +7,11 @@ use lib.ListN.{get_elem?}
 use Rattle.atomic_table.specs.Table.{State, Splits, Joins}
 use Rattle.atomic_table.proofs.Lists.{at_set, at_snoc, at_longer, set_else}
 use Rattle.esa_turnstile.specs.declared.view.About.{About}
+use Rattle.esa_turnstile.specs.declared.view.Mark.{Mark}
 use Rattle.esa_turnstile.specs.declared.view.View.{View}
 use Rattle.esa_turnstile.specs.Views.{held, is_inside, left_in, held_in, members_in, bearers}
 use Rattle.esa_turnstile.specs.Lock.{Fits, IsHome, IsAway, Kept}
+use Rattle.esa_turnstile.specs.Marks.{IsBelow}
 use Rattle.esa_turnstile.proofs.Totals.{sum-set}
 use Rattle.esa_turnstile.proofs.Rebuilt.{inside-held}
 
@@ -20,7 +22,7 @@ module _ {A : Type 0} (f : A → ℕ) where
   sum-join : (xs : List A) (i j : ℕ) (v w both spent : A) → get_elem? xs i ≡ some v → get_elem? (set xs i both) j ≡ some w → f both + f spent ≡ f v + f w → sum_by f (set (set xs i both) j spent) ≡ sum_by f xs
   sum-join xs i j v w both spent at there e = omega (arith, sum-set f xs i v both at, sum-set f (set xs i both) j w spent there)
 
-module _ {T O : Type 0} (log_of : T → List ℕ) (origin : T → O) (IsSound : T → Type 0) (mark : T → ℕ) (about : About T) where
+module _ {T O : Type 0} (log_of : T → List ℕ) (origin : T → O) (IsSound : T → Type 0) (mark : T → Mark) (about : About T) where
   abbrev V : Type 0
   V = View T
 
@@ -80,7 +82,7 @@ module _ {T O : Type 0} (log_of : T → List ℕ) (origin : T → O) (IsSound : 
       → left.left + right.left ≡ v.left
       → length left.members + length right.members ≡ length v.members
       → ((x : ℕ) → bearers x left + bearers x right ≡ bearers x v)
-      → ((log : List ℕ) (marks : ℕ → ℕ) (drawn : ℕ) → Fits about log marks drawn v → Fits about log marks drawn left × Fits about log marks drawn right)
+      → ((log : List ℕ) (marks : ℕ → Mark) (drawn : ℕ) → Fits about log marks drawn v → Fits about log marks drawn left × Fits about log marks drawn right)
       → Splits K id v left right
   splits id v left right out out-left out-right lefts members bears fits s k at =
       let both = fits k.log k.marks k.drawn (k.fits id v at) in let vs : List V = set s.views id left in
@@ -109,7 +111,7 @@ module _ {T O : Type 0} (log_of : T → List ℕ) (origin : T → O) (IsSound : 
       → both.left + spent.left ≡ v.left + w.left
       → length both.members + length spent.members ≡ length v.members + length w.members
       → ((x : ℕ) → bearers x both + bearers x spent ≡ bearers x v + bearers x w)
-      → ((log : List ℕ) (marks : ℕ → ℕ) (drawn : ℕ) → ((i j : ℕ) → i ≤ j → marks i ≤ marks j) → Fits about log marks drawn v → Fits about log marks drawn w → Fits about log marks drawn both × Fits about log marks drawn spent)
+      → ((log : List ℕ) (marks : ℕ → Mark) (drawn : ℕ) → ((i j : ℕ) → i ≤ j → IsBelow (marks i) (marks j)) → Fits about log marks drawn v → Fits about log marks drawn w → Fits about log marks drawn both × Fits about log marks drawn spent)
       → Joins K id v other w both spent
   joins id v other w both spent out out-w out-both out-spent lefts members bears fits s k at apart there =
       let vs : List V = set s.views id both in

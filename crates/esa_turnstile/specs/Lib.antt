@@ -1,6 +1,7 @@
 pub mod Entries
 pub mod Views
 pub mod Lock
+pub mod Marks
 pub mod Steps
 pub mod Passes
 pub mod Closing

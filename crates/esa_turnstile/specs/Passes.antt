@@ -21,7 +21,11 @@ module _ {T : Type 0} where
 
   -- the mark that it has seen
   abbrev pub mark_of : Pass T → ℕ
-  mark_of p = p.seat.me.0.seen.mark
+  mark_of p = p.seat.me.0.seen.mark.number
+
+  -- the trail that it has seen
+  abbrev pub trail_of : Pass T → List (List ℕ)
+  trail_of p = p.seat.me.0.seen.mark.trail
 
   -- how often it has added its number
   abbrev pub added_of : Pass T → ℕ
@@ -37,12 +41,15 @@ module _ {T : Type 0} where
   abbrev pub IsInside : Pass T → Type 0
   IsInside p = is_inside p.seat.me.0.stage ≡ true
 
-  -- the entries that it found when it entered, and the mark
+  -- the entries that it found when it entered, the mark, and the trail
   abbrev pub found_of : Pass T → List ℕ
   found_of p = (latest p.seat.me.0).entries
 
   abbrev pub found_mark_of : Pass T → ℕ
-  found_mark_of p = (latest p.seat.me.0).mark
+  found_mark_of p = (latest p.seat.me.0).mark.number
+
+  abbrev pub found_trail_of : Pass T → List (List ℕ)
+  found_trail_of p = (latest p.seat.me.0).mark.trail
 
   -- a seat is the same one
   abbrev pub IsSameSeat : Place T → Place T → Type 0

@@ -1,6 +1,7 @@
 -- What a seat knows, and how each step changes it.
 use Rattle.std.specs.Prelude.{ℕ, zero, suc, ◌+◌, ◌-◌, ◌*◌, ◌==◌, max, Bool, true, false, List, [], ◌∷◌, ◌++◌, length, take, drop, nat_le, if◌then◌else◌, Option, Some, None, count_by}
 use Rattle.esa_turnstile.specs.declared.view.About.{About}
+use Rattle.esa_turnstile.specs.declared.view.Mark.{Mark}
 use Rattle.esa_turnstile.specs.declared.view.Member.{Member}
 use Rattle.esa_turnstile.specs.declared.view.Sight.{Sight}
 use Rattle.esa_turnstile.specs.declared.view.Stage.{Stage}
@@ -64,9 +65,12 @@ abbrev pub raised : List Member → List Member
 raised [] = []
 raised (m ∷ ms) = record { number = m.number; added = m.added + 1 } ∷ raised ms
 
--- the entries of the longer one, and the greater mark
+-- the entries of the longer one with its trail, and the greater mark
 abbrev pub later : Sight → Sight → Sight
-later s t = record { entries = (if nat_le (length s.entries) (length t.entries) then t.entries else s.entries); mark = max s.mark t.mark }
+later s t = let longer = nat_le (length s.entries) (length t.entries) in record {
+  entries = if longer then t.entries else s.entries;
+  mark = record { number = max s.mark.number t.mark.number; trail = if longer then t.mark.trail else s.mark.trail };
+}
 
 module _ {T : Type 0} where
   abbrev pub left_in : View T → ℕ
@@ -100,7 +104,7 @@ module _ {T : Type 0} where
   gone v s = record v { members = raised v.members; stage = Outside; seen = s; heard = [] }
 
   -- a seat that has given out all numbers below k
-  abbrev pub dealing : (T → ℕ) → About T → ℕ → View T
+  abbrev pub dealing : (T → Mark) → About T → ℕ → View T
   dealing mark a k = record {
     about = Some a;
     members = fresh_from k (a.passes - k);
@@ -111,7 +115,7 @@ module _ {T : Type 0} where
   }
 
   -- the pass with the number k, as it is given out
-  abbrev pub dealt : (T → ℕ) → About T → ℕ → View T
+  abbrev pub dealt : (T → Mark) → About T → ℕ → View T
   dealt mark a k = record {
     about = Some a;
     members = one k 0;
@@ -143,4 +147,4 @@ module _ {T : Type 0} where
 
   -- a seat that was joined into another
   abbrev pub spent : View T
-  spent = record { about = None; members = []; left = 0; stage = Outside; seen = record { entries = []; mark = 0 }; heard = [] }
+  spent = record { about = None; members = []; left = 0; stage = Outside; seen = record { entries = []; mark = record { number = 0; trail = [] } }; heard = [] }

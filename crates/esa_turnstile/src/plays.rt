@@ -1,5 +1,6 @@
 //! The rule of the lock, and what each step tells. These types are for the proofs alone.
 ghost use Rattle.esa_turnstile.specs.Lock.{Kept};
+ghost use Rattle.esa_turnstile.specs.Marks.{marked};
 ghost use Rattle.esa_turnstile.specs.Steps.{Draws, Looks, Advances, Hears};
 ghost use Rattle.esa_turnstile.specs.Views.{dealing, rest_of, one_of, note_of, joined, spent};
 
@@ -10,9 +11,9 @@ use atomic_table::{Join, Play, Split, TableRule};
 pub struct Lock;
 
 impl<T: Logged> TableRule<Option<T>, View<T>, About<T>> for Lock {
-    ghost holds = { Kept T.log T.origin T.IsSound T.mark };
+    ghost holds = { Kept T.log T.origin T.IsSound (marked T.mark T.trail) };
 
-    ghost first = { λ about. dealing T.mark about 0 };
+    ghost first = { λ about. dealing (marked T.mark T.trail) about 0 };
 }
 
 /// Draws a ticket.
@@ -26,14 +27,14 @@ impl<T> Play<Option<T>, View<T>> for Draw {
 pub struct Look;
 
 impl<T: Logged> Play<Option<T>, View<T>> for Look {
-    ghost then = { Looks T.log T.origin T.IsSound T.mark };
+    ghost then = { Looks T.log T.origin T.IsSound (marked T.mark T.trail) };
 }
 
 /// Gives the slot back, and serves the next ticket.
 pub struct Advance;
 
 impl<T: Logged> Play<Option<T>, View<T>> for Advance {
-    ghost then = { Advances T.log T.mark };
+    ghost then = { Advances T.log (marked T.mark T.trail) };
 }
 
 /// Learns that what it has heard of begins what it has seen.

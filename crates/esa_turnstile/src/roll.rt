@@ -1,5 +1,5 @@
 //! The plainest value for a turnstile: a list of numbers with reserved room. Here it stands for any value.
-ghost use Rattle.std.specs.Prelude.{◌≡◌, ◌<◌, ◌∷◌, ◌++◌, [], length, IfOk};
+ghost use Rattle.std.specs.Prelude.{◌≡◌, ◌<◌, ◌∷◌, ◌++◌, [], length, map, IfOk};
 ghost use Rattle.esa_turnstile.specs.Rolls.{entries_in, room_in};
 
 use crate::logged::Logged;
@@ -39,7 +39,8 @@ impl Roll {
     }
 }
 
-/// Its origin is its room. It is always sound, and its mark is the number of its entries.
+/// Its origin is its room. It is always sound, its mark is the number of its entries, and each of them is a text of its
+/// trail.
 impl Logged for Roll {
     type Origin = usize;
 
@@ -50,6 +51,8 @@ impl Logged for Roll {
     ghost IsSound = { λ _. Unit {0} };
 
     ghost mark = { λ r. length (entries_in r) };
+
+    ghost trail = { λ r. map (λ n. n ∷ []) (entries_in r) };
 
     fn entries(&self) -> &[u32] {
         self.entries.as_slice()

@@ -16,10 +16,16 @@ pub struct Member {
     pub added: u64,
 }
 
-/// The entries and the mark at one moment.
+/// How far a value has come: its mark, and its trail.
+pub struct Mark {
+    pub number: u64,
+    pub trail: LinkedList<LinkedList<u8>>,
+}
+
+/// The entries at one moment, and how far the value had come.
 pub struct Sight {
     pub entries: LinkedList<u32>,
-    pub mark: u64,
+    pub mark: Mark,
 }
 
 /// Where a seat is.

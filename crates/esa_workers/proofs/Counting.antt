@@ -20,7 +20,7 @@ use Rattle.esa_turnstile.specs.Passes.{left_of, number_of, seen_of}
 use Rattle.esa_turnstile.specs.declared.pass.Pass.{Pass}
 use Rattle.esa_workers.specs.Posts.{HasTickets, IsUsed}
 use Rattle.esa_workers.specs.Works.{GoesOn, attempts_left, most_turns}
-use Rattle.esa_workers.proofs.Placing.{begun_append, latest_on}
+use Rattle.esa_workers.proofs.Listing.{begun_append, latest_on}
 
 -- the turns that are left of a round, by its phase
 abbrev later : ℕ → ℕ → ℕ

@@ -1,4 +1,9 @@
 pub mod Counting
+pub mod Distributing
+pub mod Eaching
+pub mod Later
+pub mod Listing
+pub mod Meeting
 pub mod Owning
 pub mod Placing
 pub mod Turning

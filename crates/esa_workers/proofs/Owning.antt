@@ -23,11 +23,11 @@ use Rattle.esa_turnstile.specs.Passes.{mark_of as mark_seen, number_of, seen_of}
 use Rattle.esa_turnstile.specs.declared.turnstile.Turnstile.{Turnstile}
 use Rattle.esa_workers.specs.Owners.{HasDone, IsBack}
 use Rattle.esa_workers.specs.Works.{FoundNone, Leaves}
-use Rattle.esa_workers.proofs.Placing.{begun_append, latest_on}
+use Rattle.esa_workers.proofs.Listing.{begun_append, latest_on}
 use Rattle.esa_workers.proofs.Turning.{mark_on}
 
 -- the latest turns are those of workers
-workers_turns : (w : ℕ) (l : List ℕ) → All (λ n. n < w + 1) l → AllBelow w (latest w l)
+pub workers_turns : (w : ℕ) (l : List ℕ) → All (λ n. n < w + 1) l → AllBelow w (latest w l)
 workers_turns w = by_pushes (λ (l : List ℕ). All (λ n. n < w + 1) l → AllBelow w (latest w l))
     (λ all. All-nil w)
     (λ l y before all.
@@ -88,8 +88,11 @@ module _ {V : Type 0} (faults : V → ℕ) (p : Sizes) (ds : ℕ → Draw) (f : 
     found_by (turn.Wrote j i) never = absurd never
     found_by turn.Idle never = absurd never
 
+    pub last_found : FoundNone p.b h v
+    last_found = found_by done.answer done.leaves
+
     found : (x : ℕ) × (x < length h) × (slice_index h x ≡ v) × (event_at p.b h x ≡ Done)
-    found = let last = found_by done.answer done.leaves in (last.place, last.inside, last.own, last.done)
+    found = (last_found.place, last_found.inside, last_found.own, last_found.done)
 
   spread : IsSpread f.plan (ds (attempt_begun f)) (turns_made f) f.stash f.counts f.counted
   spread = spread_is faults ds f (attempt_begun f) (f.plan.workers + 1) at.1 (λ same. absurd (omega (arith, same))) runs
@@ -101,10 +104,10 @@ module _ {V : Type 0} (faults : V → ℕ) (p : Sizes) (ds : ℕ → Draw) (f : 
       ∙ written ∙ sym (ap (λ (q : Sizes). q.b * q.b) stands.of.plan)
 
 -- a worker that is back has worked in the attempt that was begun
-pub back_has_done : {V C O : Type 0} (ds : ℕ → Draw) (target_lists : C → ℕ → ℕ → List ℕ) (p : Sizes) (t : Turnstile (Parts V) O) (entries : List ℕ) (mark : ℕ) (f : Parts V) (v : ℕ)
+pub back_has_done : {V C O : Type 0} (faults : V → ℕ) (ds : ℕ → Draw) (target_lists : C → ℕ → ℕ → List ℕ) (p : Sizes) (t : Turnstile (Parts V) O) (entries : List ℕ) (mark : ℕ) (f : Parts V) (v : ℕ)
     → begun p.workers entries ≡ begun p.workers f.history → 8 * begun p.workers entries + 5 ≤ mark
-    → IsBack ds target_lists p t entries mark f v → HasDone p f v
-back_has_done ds target_lists p t entries mark f v same at_work back =
+    → IsBack faults ds target_lists p t entries mark f v → HasDone p f v
+back_has_done faults ds target_lists p t entries mark f v same at_work back =
     let worked = back.worked in
     let seen = seen_of back.new.pass in
     let later = worked.between ++ number_of back.new.pass ∷ [] in

@@ -28,12 +28,12 @@ pub record HasDone {V : Type 0} (p : Sizes) (f : Parts V) (number : ℕ) : Type 
 
 -- the worker of this number has worked since the owner's pass had seen these entries and this mark: its pass had met the
 -- owner's before it worked, and the floor that the owner finds begins with what it saw
-pub record IsBack {V C O : Type 0} (ds : ℕ → Draw) (target_lists : C → ℕ → ℕ → List ℕ) (p : Sizes) (t : Turnstile (Parts V) O) (entries : List ℕ) (mark : ℕ) (f : Parts V) (number : ℕ) : Type 0 where
+pub record IsBack {V C O : Type 0} (faults : V → ℕ) (ds : ℕ → Draw) (target_lists : C → ℕ → ℕ → List ℕ) (p : Sizes) (t : Turnstile (Parts V) O) (entries : List ℕ) (mark : ℕ) (f : Parts V) (number : ℕ) : Type 0 where
   pub old : Manned (Working C) (Parts V)
   pub new : Manned (Working C) (Parts V)
   pub own : number_of new.pass ≡ number
   pub told : IsPrefix entries (seen_of old.pass)
   pub mark_told : mark ≤ mark_seen old.pass
-  pub worked : HasWorked ds target_lists p t old new
+  pub worked : HasWorked faults ds target_lists p t old new
   pub found : IsPrefix (seen_of new.pass) f.history
   pub mark_found : mark_seen new.pass ≤ mark_of f

@@ -1,6 +1,6 @@
 //! A crew: all workers at once, each in a thread of its own.
 
-ghost use Rattle.std.specs.Prelude.{◌*◌, ◌<◌, ◌≤◌, ℕ, All, length, slice_index_or};
+ghost use Rattle.std.specs.Prelude.{◌≡◌, ◌*◌, ◌<◌, ◌≤◌, ℕ, All, length, slice_index_or};
 ghost use Rattle.esa_turnstile.specs.Passes.{opened_of, passes_of, tickets_of};
 ghost use Rattle.esa_workers.specs.Posts.{CanWork, HasWorked};
 
@@ -23,9 +23,10 @@ pub fn crew<
     H: Gate + Sync,
     R: Threads + Wait + Sync,
 >(rt: &R, turnstile: &Turnstile<Floor<V, G>>, posts: &mut [Post<'_, V, G, C>], gate: &H)
-    requires can_work { All (λ m. CanWork G.draws C.target_list G.plan turnstile.now m) posts.old }
+    requires can_work { All (λ m. CanWork V.faults G.draws C.target_list G.plan turnstile.now m) posts.old }
     requires room { passes_of turnstile.now * tickets_of turnstile.now ≤ (opened_of turnstile.now).room }
-    ensures { (k : ℕ) (d : _) → k < length posts.old → HasWorked G.draws C.target_list G.plan turnstile.now (slice_index_or posts.old k d) (slice_index_or posts.new k d) }
+    ensures each { length posts.new ≡ length posts.old }
+    ensures worked { (k : ℕ) (d : _) → k < length posts.old → HasWorked V.faults G.draws C.target_list G.plan turnstile.now (slice_index_or posts.old k d) (slice_index_or posts.new k d) }
 {
     let threads = posts.len().max(1);
     thread::for_each_mut(

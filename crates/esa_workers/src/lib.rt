@@ -6,13 +6,18 @@
 #![tactic(auto)]
 
 mod crews;
+mod distributions;
 mod gates;
+mod manning;
+mod meetings;
 mod owners;
 mod posts;
 mod works;
 
 pub use crews::crew;
+pub use distributions::distribute;
 pub use gates::{Gate, OpenGate};
+pub use manning::{dismiss, man};
 pub use owners::{crews_leave_no_chunk, workers_leave_no_chunk};
 pub use posts::{Manned, Post};
 pub use works::work;

@@ -28,6 +28,6 @@ pub fn crews_leave_no_chunk<V: Device, C: Coins>()
     ensures { (p : Sizes) (ds : ℕ → Draw) (f : Parts V) (t : Turnstile (Parts V) Roots) (entries : List ℕ) (mark : ℕ)
         → Stands V.faults p ds f → f.attempt ≢ None → 1 ≤ p.workers → All (λ entry. entry < p.workers + 1) f.history
         → begun p.workers entries ≡ begun p.workers f.history → 8 * begun p.workers entries + 5 ≤ mark
-        → ((v : ℕ) → v < p.workers → IsBack ds C.target_list p t entries mark f v)
+        → ((v : ℕ) → v < p.workers → IsBack V.faults ds C.target_list p t entries mark f v)
         → f.stop ≡ None → f.counted.writes ≡ f.plan.b * f.plan.b }
 {}

@@ -1,8 +1,10 @@
 //! The work of one worker: turn after turn, each inside the turnstile, and its private work between them.
 
 ghost use Rattle.std.specs.Prelude.{◌≡◌, ◌≢◌, ℕ, ◌-◌, ◌*◌, ◌<◌, ◌≤◌, ◌++◌, ◌∷◌, ◌⊎◌, [], None, Some, true, false, length};
+ghost use mathlib.Core.List.{IsPrefix};
 ghost use Rattle.esa_floor.specs.Marks.{mark_of, roots_of};
-ghost use Rattle.esa_floor.specs.Standing.{Stands};
+ghost use Rattle.esa_crew.specs.Posts.{KeepsRecords};
+ghost use Rattle.esa_floor.specs.Trails.{IsKept, trail_of};
 ghost use Rattle.esa_floor.specs.Workers.{IsOfFloor, WorkerStands};
 ghost use Rattle.esa_floor.specs.Working.{IsReady};
 ghost use Rattle.esa_turnstile.specs.Passes.{left_of, mark_of as mark_seen, number_of, opened_of, passes_of, seen_of, tickets_of};
@@ -30,14 +32,15 @@ fn is_in<C: Coins>(worker: &Worker<'_, C>, attempt: u32) -> bool
 
 /// Begins the floor's attempt with a worker that is not in it.
 fn arrive<V: Device, G: Told, C: Coins>(floor: &Floor<V, G>, worker: &mut Worker<'_, C>)
-    requires stands { Stands V.faults G.plan G.draws floor.now }
+    requires kept { IsKept V.faults G.plan G.draws floor.now }
     requires of { IsOfFloor G.draws (C.target_list worker.old.coins) floor.now worker.old }
     requires ready { IsReady worker.old.stage }
-    requires finds { (a : ℕ) → floor.now.attempt ≡ Some a → Finds floor.now worker.old a }
+    requires finds { (a : ℕ) → floor.now.attempt ≡ Some a → Finds G.draws floor.now worker.old a }
     ensures same { IsSameWorker worker.old worker.new }
     ensures of { IsOfFloor G.draws (C.target_list worker.new.coins) floor.now worker.new }
     ensures ready { IsReady worker.new.stage }
     ensures stands { floor.now.attempt ≢ None → WorkerStands floor.now worker.new }
+    ensures keeps { KeepsRecords G.draws floor.now worker.new }
 {
     let Some(attempt) = floor.attempt() else {
         return;
@@ -53,21 +56,25 @@ fn turn_on<V: Device, G: Told, C: Coins>(
     worker: &mut Worker<'_, C>,
 ) -> Turn
     requires room { length floor.old.history < floor.old.room }
-    requires stands { Stands V.faults G.plan G.draws floor.old }
+    requires kept { IsKept V.faults G.plan G.draws floor.old }
     requires of { IsOfFloor G.draws (C.target_list worker.old.coins) floor.old worker.old }
     requires ready { IsReady worker.old.stage }
-    requires finds { (a : ℕ) → floor.old.attempt ≡ Some a → Finds floor.old worker.old a }
+    requires finds { (a : ℕ) → floor.old.attempt ≡ Some a → Finds G.draws floor.old worker.old a }
     ensures history { floor.new.history ≡ floor.old.history ++ worker.old.number ∷ [] }
-    ensures stands { Stands V.faults G.plan G.draws floor.new }
+    ensures kept { IsKept V.faults G.plan G.draws floor.new }
     ensures origin { roots_of floor.new ≡ roots_of floor.old }
     ensures mark { mark_of floor.old ≤ mark_of floor.new }
+    ensures trail { IsPrefix (trail_of floor.old) (trail_of floor.new) }
     ensures shows { Shows G.plan floor.new.history (mark_of floor.new) worker.old.number result }
     ensures same { IsSameWorker worker.old worker.new }
     ensures worker { floor.new.attempt ≢ None → WorkerStands floor.new worker.new }
+    ensures keeps { KeepsRecords G.draws floor.new worker.new }
     ensures idle { floor.new.attempt ≡ None → IsIdle G.plan floor.new.history (mark_of floor.new) }
 {
     arrive(floor, worker);
-    floor.turn(worker)
+    let turn = floor.turn(worker);
+    floor.keeps_its_log();
+    turn
 }
 
 /// One turn of a worker, inside the turnstile. Behind it the worker passes the gate and does its private work.
@@ -78,11 +85,11 @@ fn step<V: Device, G: Told, C: Coins, H: Gate, R: Wait>(
     gate: &H,
 ) -> Turn
     requires manned { IsManned G.draws C.target_list turnstile.now post.old }
-    requires placed { IsPlaced G.plan post.old.pass post.old.worker post.old.worker.attempt }
+    requires placed { IsPlaced V.faults G.draws G.plan post.old.pass post.old.worker post.old.worker.attempt }
     requires ticket { 0 < left_of post.old.pass }
     requires room { passes_of turnstile.now * tickets_of turnstile.now ≤ (opened_of turnstile.now).room }
     ensures manned { IsManned G.draws C.target_list turnstile.now post.new }
-    ensures placed { IsPlaced G.plan post.new.pass post.new.worker post.new.worker.attempt
+    ensures placed { IsPlaced V.faults G.draws G.plan post.new.pass post.new.worker post.new.worker.attempt
         ⊎ IsIdle G.plan (seen_of post.new.pass) (mark_seen post.new.pass) }
     ensures used { IsUsed post.old.pass post.new.pass }
     ensures shows { Shows G.plan (seen_of post.new.pass) (mark_seen post.new.pass) (number_of post.new.pass) result }
@@ -121,9 +128,9 @@ pub fn work<V: Device, G: Told, C: Coins, H: Gate, R: Wait>(
     post: &mut Post<'_, V, G, C>,
     gate: &H,
 ) -> Turn
-    requires can_work { CanWork G.draws C.target_list G.plan turnstile.now post.old }
+    requires can_work { CanWork V.faults G.draws C.target_list G.plan turnstile.now post.old }
     requires room { passes_of turnstile.now * tickets_of turnstile.now ≤ (opened_of turnstile.now).room }
-    ensures worked { HasWorked G.draws C.target_list G.plan turnstile.now post.old post.new }
+    ensures worked { HasWorked V.faults G.draws C.target_list G.plan turnstile.now post.old post.new }
     ensures leaves { Leaves G.plan (seen_of post.new.pass) (mark_seen post.new.pass) (number_of post.new.pass) result }
 {
     loop {

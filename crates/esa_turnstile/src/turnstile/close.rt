@@ -3,9 +3,10 @@ ghost use Rattle.std.specs.Prelude.{◌≡◌, ◌≤◌, ◌<◌, [], length, A
 ghost use mathlib.Core.List.{IsPrefix};
 ghost use Rattle.esa_turnstile.specs.declared.view.Stage.TheVariants.{Outside};
 ghost use Rattle.esa_turnstile.specs.Entries.{times};
+ghost use Rattle.esa_turnstile.specs.Marks.{marked};
 ghost use Rattle.esa_turnstile.specs.Views.{note_of, joined};
 ghost use Rattle.esa_turnstile.specs.Closing.{Knows, IsSettled};
-ghost use Rattle.esa_turnstile.specs.Passes.{passes_of, opened_of, IsSeatOf, IsPassOf, IsOutside, number_of, seen_of, mark_of, added_of};
+ghost use Rattle.esa_turnstile.specs.Passes.{passes_of, opened_of, IsSeatOf, IsPassOf, IsOutside, number_of, seen_of, mark_of, trail_of, added_of};
 
 use super::{SLOT, Turnstile};
 use crate::logged::Logged;
@@ -22,10 +23,11 @@ impl<T: Logged> Turnstile<T> {
         ensures counts { All (λ p. times (number_of p) (T.log result) ≡ added_of p) passes.items }
         ensures named { All (λ n. n < passes_of self) (T.log result) }
 
-        // It is sound and of the first value's origin, and its mark has not fallen.
+        // It is sound and of the first value's origin, its mark has not fallen, and its trail begins with each one seen.
         ensures sound { T.IsSound result }
         ensures origin { T.origin result ≡ T.origin (opened_of self) }
         ensures mark { All (λ p. mark_of p ≤ T.mark result) passes.items }
+        ensures trail { All (λ p. IsPrefix (trail_of p) (T.trail result)) passes.items }
         ensures mark_same { All (λ p. length (T.log result) ≡ length (seen_of p) → T.mark result ≡ mark_of p) passes.items }
     {
         let seat = self.gather(passes);
@@ -80,7 +82,7 @@ impl<T: Logged> Turnstile<T> {
         requires table { IsSeatOf self seat }
         requires outside { seat.me.0.stage ≡ Outside }
         requires whole { length seat.me.0.members ≡ passes_of self }
-        ensures settled { IsSettled T.log T.origin T.IsSound T.mark self.table.shared.key seat.me.0 result }
+        ensures settled { IsSettled T.log T.origin T.IsSound (marked T.mark T.trail) self.table.shared.key seat.me.0 result }
     {
         let Turnstile { table } = self;
         let mut closed = table.close_with(seat);

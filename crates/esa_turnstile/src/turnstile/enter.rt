@@ -3,9 +3,10 @@ ghost use Rattle.std.specs.Prelude.{◌≡◌, ◌+◌, ◌*◌, ◌<◌, ◌≤
 ghost use mathlib.Core.List.{IsPrefix};
 ghost use Rattle.esa_turnstile.specs.declared.view.Stage.TheVariants.{Outside, Waiting};
 ghost use Rattle.esa_turnstile.specs.Entries.{times};
+ghost use Rattle.esa_turnstile.specs.Marks.{marked};
 ghost use Rattle.esa_turnstile.specs.Views.{with_ticket, entered};
 ghost use Rattle.esa_turnstile.specs.Steps.{IsFound, sight_of};
-ghost use Rattle.esa_turnstile.specs.Passes.{passes_of, tickets_of, opened_of, IsSeatOf, IsSameSeat, IsPassOf, IsOutside, IsInside, number_of, seen_of, mark_of, added_of, left_of, found_of, found_mark_of};
+ghost use Rattle.esa_turnstile.specs.Passes.{passes_of, tickets_of, opened_of, IsSeatOf, IsSameSeat, IsPassOf, IsOutside, IsInside, number_of, seen_of, mark_of, trail_of, added_of, left_of, found_of, found_mark_of, found_trail_of};
 
 use super::{NEXT, SERVED, SLOT, Turnstile};
 use crate::logged::Logged;
@@ -25,8 +26,8 @@ impl<T: Logged> Turnstile<T> {
         requires ticket { 0 < left_of pass.old }
         ensures pass { IsPassOf self.now pass.new × (number_of pass.new ≡ number_of pass.old) }
         ensures inside { IsInside pass.new }
-        ensures kept { (seen_of pass.new ≡ seen_of pass.old) × (mark_of pass.new ≡ mark_of pass.old) × (added_of pass.new ≡ added_of pass.old) × (left_of pass.new ≡ left_of pass.old) }
-        ensures found { (found_of pass.new ≡ T.log result.value) × (found_mark_of pass.new ≡ T.mark result.value) }
+        ensures kept { (seen_of pass.new ≡ seen_of pass.old) × (mark_of pass.new ≡ mark_of pass.old) × (trail_of pass.new ≡ trail_of pass.old) × (added_of pass.new ≡ added_of pass.old) × (left_of pass.new ≡ left_of pass.old) }
+        ensures found { (found_of pass.new ≡ T.log result.value) × (found_mark_of pass.new ≡ T.mark result.value) × (found_trail_of pass.new ≡ T.trail result.value) }
 
         // What is found begins with all that the pass had seen, and has its number as often as it added it.
         ensures begins { IsPrefix (seen_of pass.old) (T.log result.value) }
@@ -37,10 +38,11 @@ impl<T: Logged> Turnstile<T> {
         ensures bounded { (n : ℕ) → times n (T.log result.value) ≤ tickets_of self.now }
         ensures room { length (T.log result.value) < passes_of self.now * tickets_of self.now }
 
-        // It is sound and of the first value's origin, and its mark has not fallen.
+        // It is sound and of the first value's origin, its mark has not fallen, and its trail begins with the one seen.
         ensures sound { T.IsSound result.value }
         ensures origin { T.origin result.value ≡ T.origin (opened_of self.now) }
         ensures mark { mark_of pass.old ≤ T.mark result.value }
+        ensures trail { IsPrefix (trail_of pass.old) (T.trail result.value) }
         ensures mark_same { length (T.log result.value) ≡ length (seen_of pass.old) → T.mark result.value ≡ mark_of pass.old }
     {
         let ticket = self.draw(&mut pass.seat);
@@ -63,8 +65,8 @@ impl<T: Logged> Turnstile<T> {
         requires table { IsSeatOf self.now seat.old }
         requires waits { (seat.old.me.0.stage ≡ Waiting ticket) × (seat.old.me.1 ≡ []) }
         ensures same { IsSameSeat seat.old seat.new }
-        ensures enters { seat.new.me ≡ (entered seat.old.me.0 (sight_of T.log T.mark result), (0, None) ∷ []) }
-        ensures found { IsFound T.log T.origin T.IsSound T.mark self.now.table.shared.key seat.old.me.0 result }
+        ensures enters { seat.new.me ≡ (entered seat.old.me.0 (sight_of T.log (marked T.mark T.trail) result), (0, None) ∷ []) }
+        ensures found { IsFound T.log T.origin T.IsSound (marked T.mark T.trail) self.now.table.shared.key seat.old.me.0 result }
     {
         let mut spins = 0;
         for _ in rt.forever() {
@@ -81,8 +83,8 @@ impl<T: Logged> Turnstile<T> {
         requires table { IsSeatOf self.now seat.old }
         requires waits { (seat.old.me.0.stage ≡ Waiting ticket) × (seat.old.me.1 ≡ []) }
         ensures same { IsSameSeat seat.old seat.new }
-        ensures enters { IfOk result (λ x. seat.new.me ≡ (entered seat.old.me.0 (sight_of T.log T.mark x), (0, None) ∷ [])) }
-        ensures found { IfOk result (λ x. IsFound T.log T.origin T.IsSound T.mark self.now.table.shared.key seat.old.me.0 x) }
+        ensures enters { IfOk result (λ x. seat.new.me ≡ (entered seat.old.me.0 (sight_of T.log (marked T.mark T.trail) x), (0, None) ∷ [])) }
+        ensures found { IfOk result (λ x. IsFound T.log T.origin T.IsSound (marked T.mark T.trail) self.now.table.shared.key seat.old.me.0 x) }
         ensures waits { OnErr result (seat.new.me ≡ seat.old.me) }
     {
         let table = &self.table.shared;

@@ -1,5 +1,6 @@
 //! How a turnstile is made, and its passes are given out.
 ghost use Rattle.std.specs.Prelude.{◌≡◌, ◌+◌, ◌-◌, ◌*◌, ◌^◌, ◌<◌, ℕ, [], ◌∷◌, length, slice_index_or, Some, IfOk, IfErr, All, ◌≤◌, vec_capacity};
+ghost use Rattle.esa_turnstile.specs.Marks.{marked};
 ghost use Rattle.esa_turnstile.specs.Views.{dealing};
 ghost use Rattle.esa_turnstile.specs.Passes.{passes_of, tickets_of, opened_of, IsSeatOf, IsPassOf, IsNewPass, number_of};
 
@@ -64,7 +65,7 @@ impl<T: Logged> Turnstile<T> {
     fn deal_all(&self, seat: &mut Place<T>, passes: u32, dealt: &mut Vec<Pass<T>>)
         requires table { IsSeatOf self.now seat.old }
         requires whole { passes ≡ passes_of self.now }
-        requires start { seat.old.me ≡ (dealing T.mark self.now.table.shared.key 0, []) }
+        requires start { seat.old.me ≡ (dealing (marked T.mark T.trail) self.now.table.shared.key 0, []) }
         requires room { (dealt.old.items ≡ []) × (passes ≤ vec_capacity dealt.old) }
         ensures count { length dealt.new.items ≡ passes }
         ensures dealt { All (λ p. IsPassOf self.now p × IsNewPass (tickets_of self.now) (T.mark (opened_of self.now)) p) dealt.new.items }
@@ -79,9 +80,9 @@ impl<T: Logged> Turnstile<T> {
     fn deal(&self, seat: &mut Place<T>, number: u32) -> Pass<T>
         requires table { IsSeatOf self.now seat.old }
         requires more { number < passes_of self.now }
-        requires from { seat.old.me ≡ (dealing T.mark self.now.table.shared.key number, []) }
+        requires from { seat.old.me ≡ (dealing (marked T.mark T.trail) self.now.table.shared.key number, []) }
         ensures table { IsSeatOf self.now seat.new }
-        ensures rest { seat.new.me ≡ (dealing T.mark self.now.table.shared.key (number + 1), []) }
+        ensures rest { seat.new.me ≡ (dealing (marked T.mark T.trail) self.now.table.shared.key (number + 1), []) }
         ensures pass { IsPassOf self.now result × IsNewPass (tickets_of self.now) (T.mark (opened_of self.now)) result }
         ensures number { number_of result ≡ number }
     {

@@ -4,7 +4,7 @@ ghost use mathlib.Core.List.{IsPrefix};
 ghost use Rattle.esa_turnstile.specs.declared.view.Stage.TheVariants.{Outside};
 ghost use Rattle.esa_turnstile.specs.Views.{joined, note_of};
 ghost use Rattle.esa_turnstile.specs.Steps.{HasHeard};
-ghost use Rattle.esa_turnstile.specs.Passes.{IsSeatOf, IsSameSeat, IsPassOf, IsOutside, number_of, seen_of, mark_of, added_of, left_of};
+ghost use Rattle.esa_turnstile.specs.Passes.{IsSeatOf, IsSameSeat, IsPassOf, IsOutside, number_of, seen_of, mark_of, trail_of, added_of, left_of};
 
 use super::{SERVED, Turnstile};
 use crate::logged::Logged;
@@ -22,6 +22,8 @@ impl<T: Logged> Turnstile<T> {
         ensures seen_from { IsPrefix (seen_of from.old) (seen_of into.new) }
         ensures seen_into { IsPrefix (seen_of into.old) (seen_of into.new) }
         ensures mark { mark_of into.new ≡ max (mark_of into.old) (mark_of from.old) }
+        ensures trail_from { IsPrefix (trail_of from.old) (trail_of into.new) }
+        ensures trail_into { IsPrefix (trail_of into.old) (trail_of into.new) }
     {
         let note = self.note(&mut from.seat);
         self.join(&mut into.seat, note);

@@ -3,19 +3,20 @@ use Rattle.std.proofs.Common.{ℕ, ap, ◌∙◌, subst}
 use Rattle.esa_floor.specs.Marks.{mark_of}
 use Rattle.esa_floor.specs.Working.{Working}
 use Rattle.esa_workers.specs.Works.{Shows}
+use Rattle.esa_workers.proofs.Placing.{log_turned}
 use Rattle.esa_workers.proofs.Turning.{idle, shown}
 use Rattle.esa_workers.proofs.works.turn_on.Goals as goal
 
 pub returns-clause-shows : goal.returns-clause-shows
 returns-clause-shows g c =
-    let t = c.turn.ensures in
-    subst (λ (n : ℕ). Shows g.G.Told.plan c.turn.new.self.history (mark_of c.turn.new.self) n c.turn.result) c.arrive.ensures.same.number
-    (shown g.V.Device.faults g.G.Told.plan g.G.Told.draws c.args.floor.now c.turn.new.self c.arrive.new.worker.number c.requires.stands t.stands
-    c.arrive.ensures.of.number t.history c.turn.result t.attempt t.answer)
+    let t = c.turn-turn.ensures in
+    subst (λ (n : ℕ). Shows g.G.Told.plan c.turn-turn.new.self.history (mark_of c.turn-turn.new.self) n c.turn-turn.result) c.arrive.ensures.same.number
+    (shown g.V.Device.faults g.G.Told.plan g.G.Told.draws c.args.floor.now c.turn-turn.new.self c.arrive.new.worker.number c.requires.kept.stands t.stands
+    c.arrive.ensures.of.number t.history c.turn-turn.result t.attempt t.answer)
 
 pub returns-clause-same : goal.returns-clause-same
 returns-clause-same g c =
-    let moved = c.turn.ensures.moved in
+    let moved = c.turn-turn.ensures.moved in
     let same = c.arrive.ensures.same in
     record {
       number = ap (λ (w : Working _). w.number) moved ∙ same.number;
@@ -26,4 +27,26 @@ returns-clause-same g c =
     }
 
 pub returns-clause-idle : goal.returns-clause-idle
-returns-clause-idle g c = λ none. idle g.V.Device.faults g.G.Told.plan g.G.Told.draws c.turn.new.self c.turn.ensures.stands none
+returns-clause-idle g c = λ none. idle g.V.Device.faults g.G.Told.plan g.G.Told.draws c.turn-turn.new.self c.turn-turn.ensures.stands none
+
+pub returns-clause-kept : goal.returns-clause-kept
+returns-clause-kept g c =
+    let t = c.turn-turn.ensures in
+    let keeps = c.arrive.ensures.keeps in
+    record {
+      stands = t.stands;
+      logged = c.keeps_its_log.ensures;
+      queues = t.queues keeps.records c.requires.kept.queues;
+      slots = t.slots keeps.chunks c.requires.kept.slots;
+    }
+
+pub returns-clause-trail : goal.returns-clause-trail
+returns-clause-trail g c =
+    let t = c.turn-turn.ensures in
+    log_turned c.args.floor.now c.turn-turn.new.self c.arrive.new.worker.number _ t.log t.later t.idle
+
+pub returns-clause-keeps : goal.returns-clause-keeps
+returns-clause-keeps g c =
+    let t = c.turn-turn.ensures in
+    let keeps = c.arrive.ensures.keeps in
+    record { records = t.holds; chunks = t.chunks keeps.records c.requires.kept.queues keeps.chunks }

@@ -6,7 +6,7 @@ use Rattle.esa_workers.proofs.Working.{going_on, has_worked, one_left, starts}
 use Rattle.esa_workers.proofs.works.work.Goals as goal
 
 pub loop-turn-init : goal.loop-turn-init
-loop-turn-init g c = starts g.G.Told.draws g.C.Coins.target_list g.G.Told.plan c.args.turnstile.now c.args.post.now c.requires.can_work
+loop-turn-init g c = starts g.V.Device.faults g.G.Told.draws g.C.Coins.target_list g.G.Told.plan c.args.turnstile.now c.args.post.now c.requires.can_work
 
 pub step-turn-requires-clause-ticket : goal.step-turn-requires-clause-ticket
 step-turn-requires-clause-ticket g c = one_left g.G.Told.plan c.loop-turn.post.pass c.loop-turn.invariant.enough
@@ -16,7 +16,7 @@ loop-turn-preserved g c =
     let p = g.G.Told.plan in
     let new = c.step-turn.new.post in
     let e = c.step-turn.ensures in
-    going_on g.G.Told.draws g.C.Coins.target_list p c.args.turnstile.now c.args.post.now c.loop-turn.post new c.loop-turn.invariant e.manned e.placed e.used e.buckets
+    going_on g.V.Device.faults g.G.Told.draws g.C.Coins.target_list p c.args.turnstile.now c.args.post.now c.loop-turn.post new c.loop-turn.invariant e.manned e.placed e.used e.buckets
     (more_goes_on p (seen_of new.pass) (mark_of new.pass) (number_of new.pass) c.step-turn.result (sym c.is_last.ensures ∙ c.if-is_last.false) e.shows)
 
 pub loop-turn-smaller : goal.loop-turn-smaller
@@ -27,7 +27,7 @@ returns-then-is_last-clause-worked g c =
     let p = g.G.Told.plan in
     let new = c.step-turn.new.post in
     let e = c.step-turn.ensures in
-    has_worked g.G.Told.draws g.C.Coins.target_list p c.args.turnstile.now c.args.post.now c.loop-turn.post new c.loop-turn.invariant e.manned e.placed e.used c.step-turn.result
+    has_worked g.V.Device.faults g.G.Told.draws g.C.Coins.target_list p c.args.turnstile.now c.args.post.now c.loop-turn.post new c.loop-turn.invariant e.manned e.placed e.used c.step-turn.result
     (last_leaves p (seen_of new.pass) (mark_of new.pass) (number_of new.pass) c.step-turn.result (sym c.is_last.ensures ∙ c.if-is_last.true) e.shows)
 
 pub returns-then-is_last-clause-leaves : goal.returns-then-is_last-clause-leaves

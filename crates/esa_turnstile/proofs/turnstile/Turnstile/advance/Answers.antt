@@ -1,7 +1,8 @@
-use Rattle.std.proofs.Common.{rules, ◌≤◌, ◌∷◌, [], ◌++◌, length, Some, ap, sym, ◌∙◌, subst}
+use Rattle.std.proofs.Common.{rules, ◌∷◌, [], ◌++◌, length, Some, ap, sym, ◌∙◌, subst}
 use Rattle.atomic_table.specs.Table.{rest}
 use Rattle.esa_turnstile.specs.Views.{is_inside, latest, first_number}
 use Rattle.esa_turnstile.proofs.Advances.{advances}
+use Rattle.esa_turnstile.specs.Marks.{IsBelow, marked}
 use Rattle.esa_turnstile.proofs.turnstile.Turnstile.advance.Goals as goal
 
 pub fetch_add-served-requires : goal.fetch_add-served-requires
@@ -17,5 +18,5 @@ fetch_add-served-requires g c =
           (c.requires.added ∙ ap (λ v. (latest v).entries ++ first_number v.members ∷ []) (sym view))
           c.requires.sound
           c.requires.origin
-          (subst (λ v. (latest v).mark ≤ g.T.Logged.mark x) (sym view) c.requires.mark),
+          (subst (λ v. IsBelow (latest v).mark (marked g.T.Logged.mark g.T.Logged.trail x)) (sym view) c.requires.mark),
     )

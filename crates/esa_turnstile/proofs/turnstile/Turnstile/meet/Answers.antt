@@ -23,3 +23,13 @@ pub returns-clause-seen_into : goal.returns-clause-seen_into
 returns-clause-seen_into g c =
     (heard-both c.args.into.now.seat.me.0 c.args.from.now.seat.me.0 c.note-note.result.me.0 c.hear.new.seat.me.0
     (ap (λ m. m.0) c.note-note.ensures.note.1) (ap (λ m. m.0) (c.hear.ensures.same.1 ∙ c.join.ensures.both)) c.hear.ensures.heard.heard).0.begins
+
+pub returns-clause-trail_from : goal.returns-clause-trail_from
+returns-clause-trail_from g c =
+    (heard-both c.args.into.now.seat.me.0 c.args.from.now.seat.me.0 c.note-note.result.me.0 c.hear.new.seat.me.0
+    (ap (λ m. m.0) c.note-note.ensures.note.1) (ap (λ m. m.0) (c.hear.ensures.same.1 ∙ c.join.ensures.both)) c.hear.ensures.heard.heard).1.mark.trail
+
+pub returns-clause-trail_into : goal.returns-clause-trail_into
+returns-clause-trail_into g c =
+    (heard-both c.args.into.now.seat.me.0 c.args.from.now.seat.me.0 c.note-note.result.me.0 c.hear.new.seat.me.0
+    (ap (λ m. m.0) c.note-note.ensures.note.1) (ap (λ m. m.0) (c.hear.ensures.same.1 ∙ c.join.ensures.both)) c.hear.ensures.heard.heard).0.mark.trail
