@@ -22,7 +22,7 @@ pub record Loading : Type 0 where
   pub run : Keys
 
 -- there is room for the records of each bucket and for its block: the first bucket is the largest
-pub record AreRooms (p : Sizes) (text sealed : List ℕ) : Type 0 where
+pub record FitsEachBucket (p : Sizes) (text sealed : List ℕ) : Type 0 where
   pub records : length text ≡ envelope_length p.form * size p 0
   pub block : length sealed ≡ envelope_length p.form * size p 0 + 40
 

@@ -1,8 +1,8 @@
 //! The load of one bucket.
 
-ghost use Rattle.std.specs.Prelude.{◌≡◌, ◌*◌, ◌+◌, ◌<◌, ◌≤◌, Some, length, take};
+ghost use Rattle.std.specs.Prelude.{◌≡◌, ◌+◌, ◌<◌, Some, length};
 ghost use Rattle.esa_params.specs.Form.{envelope_length};
-ghost use Rattle.esa_params.specs.Sizes.{first, size};
+ghost use Rattle.esa_params.specs.Sizes.{first};
 ghost use Rattle.esa_params.specs.Slots.{plain_length};
 ghost use Rattle.esa_load.specs.Loads.{BucketEnd, WriteEnd};
 
@@ -41,7 +41,7 @@ fn write_bucket<V: Device>(
 }
 
 /// Reads the records of a bucket into `text`, and writes its block, for which `sealed` is room.
-fn load_bucket<V: Device, R: Records>(
+pub(crate) fn load_bucket<V: Device, R: Records>(
     recorder: &mut Recorder<V>,
     plan: &Plan,
     run: &Prepared,
@@ -59,6 +59,7 @@ fn load_bucket<V: Device, R: Records>(
     requires sealed { length sealed.old ≡ plain_length plan.now Region.Input bucket + 40 }
     ensures end { BucketEnd V.faults plan.now run.now (R.told batch.old) (R.part (R.grounds batch.old) (first plan.now bucket)) bucket text.new recorder.old recorder.new
         (record { faults = R.faults batch.old; heard = R.heard batch.old }) (record { faults = R.faults batch.new; heard = R.heard batch.new }) result }
+    ensures long { length text.new ≡ plain_length plan.now Region.Input bucket }
     ensures told { R.told batch.new ≡ R.told batch.old }
     ensures grounds { R.grounds batch.new ≡ R.grounds batch.old }
     ensures count { R.count batch.new ≡ R.count batch.old }
@@ -68,37 +69,4 @@ fn load_bucket<V: Device, R: Records>(
         return Err(LoadFault::Batch(bucket));
     }
     write_bucket(recorder, plan, run, bucket, text, sealed)
-}
-
-/// The same with room for the longest bucket.
-#[tactic(auto, using(crate::proofs::Fitting::bucket_fits))]
-pub(crate) fn load_some<V: Device, R: Records>(
-    recorder: &mut Recorder<V>,
-    plan: &Plan,
-    run: &Prepared,
-    batch: &mut R,
-    bucket: u32,
-    text: &mut [u8],
-    sealed: &mut [u8],
-) -> Result<(), LoadFault>
-    requires bucket { bucket < plan.now.b }
-    requires ready { recorder.old.plan ≡ Some plan.now }
-    requires room { 0 < recorder.old.room }
-    requires count { R.count batch.old ≡ plan.now.n }
-    requires size { R.size batch.old ≡ envelope_length plan.now.form }
-    requires text { length text.old ≡ envelope_length plan.now.form * size plan.now 0 }
-    requires sealed { length sealed.old ≡ envelope_length plan.now.form * size plan.now 0 + 40 }
-    ensures end { BucketEnd V.faults plan.now run.now (R.told batch.old) (R.part (R.grounds batch.old) (first plan.now bucket)) bucket (take (plain_length plan.now Region.Input bucket) text.new) recorder.old recorder.new
-        (record { faults = R.faults batch.old; heard = R.heard batch.old }) (record { faults = R.faults batch.new; heard = R.heard batch.new }) result }
-    ensures told { R.told batch.new ≡ R.told batch.old }
-    ensures grounds { R.grounds batch.new ≡ R.grounds batch.old }
-    ensures count { R.count batch.new ≡ R.count batch.old }
-    ensures size { R.size batch.new ≡ R.size batch.old }
-    ensures text { length text.new ≡ length text.old }
-    ensures sealed { length sealed.new ≡ length sealed.old }
-    ensures fits { plain_length plan.now Region.Input bucket ≤ length text.old }
-{
-    let length = (plan.form().envelope() * plan.size(bucket)) as usize;
-    let (text, sealed) = (&mut text[..length], &mut sealed[..length + 40]);
-    load_bucket(recorder, plan, run, batch, bucket, text, sealed)
 }

@@ -5,7 +5,7 @@ ghost use Rattle.esa_params.specs.Form.{envelope_length};
 ghost use Rattle.esa_params.specs.Sizes.{size};
 ghost use Rattle.esa_load.specs.Loads.{LoadEnd};
 
-use crate::bucket::load_some;
+use crate::bucket::load_bucket;
 use crate::fault::LoadFault;
 use esa_device::{Device, Recorder};
 use esa_envelope::{Keys, Prepared, prepare};
@@ -15,6 +15,7 @@ use std::alloc::{AllocError, Global};
 use std::marker::Model;
 
 /// Loads the buckets, one after another. `text` and `sealed` are room for each.
+#[tactic(auto, using(crate::proofs::Fitting::bucket_fits))]
 fn load_all<V: Device, R: Records>(
     recorder: &mut Recorder<V>,
     plan: &Plan,
@@ -35,11 +36,11 @@ fn load_all<V: Device, R: Records>(
     ensures grounds { R.grounds batch.new ≡ R.grounds batch.old }
     ensures count { R.count batch.new ≡ R.count batch.old }
     ensures size { R.size batch.new ≡ R.size batch.old }
-    ensures text { length text.new ≡ length text.old }
-    ensures sealed { length sealed.new ≡ length sealed.old }
 {
     for bucket in 0..plan.b() {
-        if let Err(fault) = load_some(recorder, plan, run, batch, bucket, text, sealed) {
+        let length = (plan.form().envelope() * plan.size(bucket)) as usize;
+        let (text, sealed) = (&mut text[..length], &mut sealed[..length + 40]);
+        if let Err(fault) = load_bucket(recorder, plan, run, batch, bucket, text, sealed) {
             return Err(fault);
         }
     }
@@ -56,13 +57,13 @@ pub struct Loader {
 }
 
 impl Model for Loader {
-    ghost use Rattle.esa_load.specs.Loads.{AreRooms, Loading};
+    ghost use Rattle.esa_load.specs.Loads.{FitsEachBucket, Loading};
 
     ghost Value = { Loading };
 
     ghost view = { λ l. record { plan = l.plan; run = l.run } };
 
-    ghost invariant = { λ l. AreRooms l.plan l.text.items l.sealed.items };
+    ghost invariant = { λ l. FitsEachBucket l.plan l.text.items l.sealed.items };
 }
 
 impl Loader {

@@ -1,10 +1,12 @@
 -- The steps of a compression, one after another.
-use Rattle.std.proofs.Common.{◌≡◌, ℕ, suc, ◌+◌, ◌-◌, ◌<◌, ◌≤◌, Bool, false, cond, List, [], ◌∷◌, ◌++◌, length, take, drop, map, sum, Option, Result, Ok, Err, refl, sym, ap, ◌∙◌, subst, arith, append-nil, append_assoc, length-append, length-drop, OnOk}
+use Rattle.std.proofs.Common.{◌≡◌, ℕ, suc, ◌+◌, ◌-◌, ◌<◌, ◌≤◌, Bool, false, cond, List, [], ◌∷◌, ◌++◌, length, take, drop, map, sum, Option, Some, Result, Ok, Err, refl, sym, ap, ◌∙◌, subst, arith, append-nil, append_assoc, length-append, length-drop, OnOk}
 use Rattle.std.specs.Prelude.{nat_lt}
 use Rattle.std.proofs.lemmas.Bool.{lt-ltb, le-ltb}
 use Rattle.std.specs.List.{range_with_len}
 use Rattle.std.specs.List.{flat_map}
 use Rattle.std.proofs.lemmas.Grind.{flat_map-append}
+use Rattle.esa_floor.specs.Parts.{Parts}
+use Rattle.esa_floor.specs.Standing.{turns_made}
 use Rattle.esa_laws.proofs.Ranges.{below-add, below-add-one, range-add, range-suc}
 use Rattle.esa_laws.proofs.LengthLaws.{length-import}
 use Rattle.esa_laws.proofs.SizeLaws.{first-more}
@@ -33,7 +35,7 @@ use Rattle.esa_vault.specs.declared.fault.VaultFault.{VaultFault}
 use Rattle.esa_vault.specs.declared.fault.VaultFault.TheVariants.{Device, Tampered}
 use Rattle.esa_press.specs.Fetched.{GoesOnReading, IsFetched, part_slot}
 use Rattle.esa_press.specs.Pressed.{ImportAnswer, Pressed, PutAnswer}
-use Rattle.esa_press.specs.Stepped.{AreCounted, AreMade, EndsSteps, parts_counted}
+use Rattle.esa_press.specs.Stepped.{AreCounted, AreMade, EndsSteps, IsAtImport, parts_counted}
 use Rattle.esa_press.specs.declared.halt.Halt.{Halt}
 use Rattle.esa_press.specs.declared.halt.Halt.TheVariants as halt
 use Rattle.esa_press.proofs.Counting.{part_items, parts_sum}
@@ -336,3 +338,23 @@ module _ {V : Type 0} (faults : V → ℕ) (p : Sizes) (keys : Keys) (d : Draw) 
       ∙ flat_map-append (steps_of p) (below n) (range_with_len n (m - n)) in
       subst (λ (xs : List Step). AreMade {T = Unit {0}} faults p keys d o a xs old new (Err stop)) (sym is)
       (made_bad faults p keys d a o (upto_output n) (flat_map (steps_of p) (range_with_len n (m - n))) old new stop made)
+
+-- a press is at an import still where no more than the recorder of the floor, the window and the counts have changed
+pub still_at : {V : Type 0} (drawn_for : Sizes) (d : Draw) (a j i : ℕ) (f new : Parts V) (w now : Pressed) → new ≡ record f { recorder = new.recorder }
+    → now ≡ record w { queue = now.queue; counts = now.counts } → new.recorder.plan ≡ f.recorder.plan
+    → w.plan ≡ f.plan → w.run ≡ f.run → drawn_for ≡ f.plan → a < f.plan.attempts → f.recorder.plan ≡ Some f.plan → AreCounted f.plan d (turns_made f) f.counts w.tails
+    → first f.plan j ≤ reached f.plan d i → length now.queue ≡ reached f.plan d i - first f.plan j → IsAtImport drawn_for d a j i new now
+still_at {V} drawn_for d a j i f new w now floor others kept plan run coins attempt ready counted put waits =
+    let plan_is : new.plan ≡ f.plan = ap (λ (x : Parts V). x.plan) floor in
+    let attempts = ap (λ (q : Sizes). q.attempts) plan_is in
+    record {
+      plan = ap (λ (x : Pressed). x.plan) others ∙ plan ∙ sym plan_is;
+      run = ap (λ (x : Pressed). x.run) others ∙ run ∙ sym (ap (λ (x : Parts V). x.run) floor);
+      coins = coins ∙ sym plan_is;
+      attempt = omega (arith, attempts, attempt);
+      ready = kept ∙ ready ∙ ap Some (sym plan_is);
+      counted = subst (λ (x : Parts V). AreCounted x.plan d (turns_made x) x.counts now.tails) (sym floor)
+          (subst (λ (x : Pressed). AreCounted f.plan d (turns_made f) f.counts x.tails) (sym others) counted);
+      put = subst (λ (q : Sizes). first q j ≤ reached q d i) (sym plan_is) put;
+      waits = waits ∙ ap (λ (q : Sizes). reached q d i - first q j) (sym plan_is);
+    }

@@ -44,7 +44,7 @@ use Rattle.esa_vault.proofs.TextLaws.{place-inside, text-fills}
 use Rattle.esa_floor.specs.Keeping.{AreChunksStored, HasInput, chunk_block}
 use Rattle.esa_floor.specs.Parts.{Parts, count_at}
 use Rattle.esa_floor.proofs.Writing.{took-read}
-use Rattle.esa_press.specs.Contents.{AreItems, AreOrders, ArePut, AreQueued, AreTailsStored, EachOpens, GoesOnPressing, GoesOnWriting, HoldsDistribution, IsOfPress, WroteItsBlock, has_stored, output_of, tail_of, waiting_items}
+use Rattle.esa_press.specs.Contents.{AreItems, ArePut, AreQueued, AreTailsStored, EachOpens, GoesOnPressing, GoesOnWriting, HoldsDistribution, IsOfPress, WroteItsBlock, has_stored, output_of, tail_of}
 use Rattle.esa_press.specs.Drained.{AreDrained, DrainEnd, failed_tail, stored_tail, tail_block}
 use Rattle.esa_press.specs.Fetched.{AreStored, GoesOnReading, IsFetched, IsStored, part_slot}
 use Rattle.esa_press.specs.Pressed.{ImportAnswer, Pressed, PutAnswer, output_block}
@@ -439,19 +439,6 @@ import_answer_is faults a i w p keys parts queue plan run counts waits given old
     (subst (λ (xs : List ℕ). ImportAnswer faults p keys a i xs w.queue given new result) counts
     (subst (λ (k : Keys). ImportAnswer faults p k a i w.counts w.queue given new result) run
     (subst (λ (q : Sizes). ImportAnswer faults q w.run a i w.counts w.queue given new result) plan answer))))
-
--- what is said of the imports for output bucket j, from the queue before them to the one behind them
-abbrev pub Keeps : {T : Type 0} → Sizes → Keys → Draw → List ℕ → ℕ → (ℕ → List ℕ) → (ℕ → Item) → ℕ → ℕ → ℕ → List Carried → List Carried → List Item → List Item → Result T Halt → Type 0
-Keeps p keys d h a orders record_of j i k old new queue rest result =
-    ArePlanned p → AreOrders p d orders → HoldsDistribution p keys d h a record_of old → IsFaithful p new → queue ≡ waiting_items p d h record_of j i
-    → EachOpens result (rest ≡ waiting_items p d h record_of j k) (Unit {0})
-
--- and of all steps for it
-abbrev pub Puts : {T : Type 0} → Sizes → Keys → Draw → List ℕ → ℕ → (ℕ → List ℕ) → (ℕ → Item) → ℕ → ℕ → ℕ → List Carried → List Carried → List Carried → List Item → List Item → Result T Halt → Type 0
-Puts p keys d h a orders record_of j i k before old new queue rest result =
-    ArePlanned p → AreOrders p d orders → HoldsDistribution p keys d h a record_of before → ArePut p keys d h a record_of j before old → IsFaithful p new
-    → queue ≡ waiting_items p d h record_of j i
-    → EachOpens result (ArePut p keys d h a record_of (j + 1) before new × (rest ≡ waiting_items p d h record_of (j + 1) k)) (ArePut p keys d h a record_of j before new)
 
 -- what stops them
 pub stops_with : (P Q S R : Type 0) (stop : Halt) → EachOpens {T = Unit {0}} (Err stop) P S → (S → R) → EachOpens {T = Unit {0}} (Err stop) Q R

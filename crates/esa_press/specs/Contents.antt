@@ -1,10 +1,10 @@
 -- What the slots of an attempt hold, where each place has the item of its record.
-use Rattle.std.specs.Prelude.{◌≡◌, ℕ, ◌<◌, ◌++◌, ◌&&◌, Bool, List, map, length, All, count_by, is_some, Result, Ok, Err}
-use Rattle.esa_device.specs.Logs.{Carried, Took}
+use Rattle.std.specs.Prelude.{◌≡◌, ℕ, ◌+◌, ◌<◌, ◌++◌, ◌&&◌, Bool, List, map, length, All, count_by, is_some, Result, Ok, Err}
+use Rattle.esa_device.specs.Logs.{Carried, IsFaithful, Took}
 use Rattle.esa_envelope.specs.declared.keys.Keys.{Keys}
 use Rattle.esa_floor.specs.Keeping.{AreChunksStored}
 use Rattle.esa_floor.specs.Written.{NoWriteFailed, OnlyLastFailed, TookItsBlock, output_seal, tail_seal}
-use Rattle.esa_params.specs.Sizes.{Sizes}
+use Rattle.esa_params.specs.Sizes.{ArePlanned, Sizes}
 use Rattle.esa_params.specs.Slots.{at, is_writing, item_length, number_of}
 use Rattle.esa_params.specs.declared.slot.Op.TheVariants.{Write as Writes}
 use Rattle.esa_params.specs.declared.slot.Region.TheVariants.{Output, Tail}
@@ -96,6 +96,20 @@ EachOpens (Ok done) whole stopped = whole
 EachOpens (Err (Verdict v)) whole stopped = stopped
 EachOpens (Err (Fault (Device number))) whole stopped = stopped
 EachOpens (Err (Fault (Tampered number))) whole stopped = ⊥
+
+-- the imports of the targets from i up to k for output bucket j, from the queue before them to the one behind them: where it
+-- held the records that wait, it does so with the targets that have come
+abbrev pub KeepsWaiting : {T : Type 0} → Sizes → Keys → Draw → List ℕ → ℕ → (ℕ → List ℕ) → (ℕ → Item) → ℕ → ℕ → ℕ → List Carried → List Carried → List Item → List Item → Result T Halt → Type 0
+KeepsWaiting p keys d h a orders record_of j i k old new queue rest result =
+    ArePlanned p → AreOrders p d orders → HoldsDistribution p keys d h a record_of old → IsFaithful p new → queue ≡ waiting_items p d h record_of j i
+    → EachOpens result (rest ≡ waiting_items p d h record_of j k) (Unit {0})
+
+-- all steps for output bucket j: it is put where they were done, and otherwise those before it stay
+abbrev pub PutsWaiting : {T : Type 0} → Sizes → Keys → Draw → List ℕ → ℕ → (ℕ → List ℕ) → (ℕ → Item) → ℕ → ℕ → ℕ → List Carried → List Carried → List Carried → List Item → List Item → Result T Halt → Type 0
+PutsWaiting p keys d h a orders record_of j i k before old new queue rest result =
+    ArePlanned p → AreOrders p d orders → HoldsDistribution p keys d h a record_of before → ArePut p keys d h a record_of j before old → IsFaithful p new
+    → queue ≡ waiting_items p d h record_of j i
+    → EachOpens result (ArePut p keys d h a record_of (j + 1) before new × (rest ≡ waiting_items p d h record_of (j + 1) k)) (ArePut p keys d h a record_of j before new)
 
 -- which writes failed, by how it ended: none, or the last access alone
 abbrev pub EndsWriting : {T : Type 0} → Result T Halt → List Carried → Type 0

@@ -1,5 +1,6 @@
 -- Blocks that are read and opened to items, one by one and for a whole import.
 use Rattle.std.specs.Prelude.{◌≡◌, ℕ, ◌+◌, ◌-◌, ◌<◌, ◌≤◌, nat_lt, if◌then◌else◌, false, Some, List, [], ◌∷◌, ◌++◌, All, length, take, slice_index, Result, Ok, Err, OnOk}
+use Rattle.esa_compress.specs.Held.{held_count}
 use Rattle.esa_device.specs.Logs.{Carried, IsFaithful, Took}
 use Rattle.esa_device.specs.Recording.{Recorded}
 use Rattle.esa_envelope.specs.declared.keys.Keys.{Keys}
@@ -13,6 +14,7 @@ use Rattle.esa_params.specs.declared.slot.Slot.{Slot}
 use Rattle.esa_report.specs.declared.item.Item.{Item}
 use Rattle.esa_spec.specs.Traces.{chunk_slot, import_reads}
 use Rattle.esa_stash.specs.Stash.{padded}
+use Rattle.esa_vault.specs.Placed.{IsSpelled}
 use Rattle.esa_vault.specs.Seals.{opens}
 use Rattle.esa_vault.specs.declared.fault.VaultFault.{VaultFault}
 use Rattle.esa_vault.specs.declared.fault.VaultFault.TheVariants.{Device, Tampered}
@@ -33,6 +35,12 @@ abbrev pub GivesRecords : {V T : Type 0} → Sizes → Keys → Slot → ℕ →
 GivesRecords p keys slot attempt items old new result =
     (records : List Item) → IsFaithful p new.log → IsStored p keys slot attempt (length items) old.log records
     → OnOk result (items ≡ padded (length items) records)
+
+-- what is ensured of the items that are got: as many as are counted are no dummies, and bytes can spell each
+pub record AreGot {V T : Type 0} (p : Sizes) (keys : Keys) (slot : Slot) (attempt count : ℕ) (items : List Item) (old new : Recorded V) (result : Result T VaultFault) : Type 0 where
+  pub counted : OnOk result (held_count items ≡ count)
+  pub spelled : OnOk result (All (IsSpelled (item_length p.form)) items)
+  pub gives : GivesRecords p keys slot attempt items old new result
 
 -- the block of part x of the import of the target i: the chunk of bucket x, and behind the chunks the tail
 abbrev pub part_slot : Sizes → ℕ → ℕ → Slot

@@ -1,11 +1,12 @@
 -- The steps of a compression over the memory: how they end, and which accesses they make.
-use Rattle.std.specs.Prelude.{◌≡◌, ℕ, ◌*◌, ◌<◌, false, List, [], ◌∷◌, ◌++◌, length, map, slice_index, None, Result, Ok, Err}
+use Rattle.std.specs.Prelude.{◌≡◌, ℕ, ◌-◌, ◌*◌, ◌<◌, ◌≤◌, false, List, [], ◌∷◌, ◌++◌, length, map, slice_index, None, Some, Result, Ok, Err}
 use Rattle.esa_device.specs.Recording.{Recorded}
 use Rattle.esa_envelope.specs.declared.keys.Keys.{Keys}
-use Rattle.esa_floor.specs.Parts.{count_at}
+use Rattle.esa_floor.specs.Parts.{Parts, count_at}
+use Rattle.esa_floor.specs.Standing.{turns_made}
 use Rattle.esa_spec.specs.Fronts.{items_in}
 use Rattle.esa_outside.specs.Cause.{Rose}
-use Rattle.esa_params.specs.Sizes.{Sizes, below}
+use Rattle.esa_params.specs.Sizes.{Sizes, below, first}
 use Rattle.esa_params.specs.Slots.{at, slot_number}
 use Rattle.esa_params.specs.declared.slot.Access.{Access}
 use Rattle.esa_params.specs.declared.slot.Op.TheVariants.{Read as Reads}
@@ -14,11 +15,12 @@ use Rattle.esa_spec.specs.Lines.{backlog, chunk}
 use Rattle.esa_spec.specs.Places.{exchange_of}
 use Rattle.esa_spec.specs.Traces.{walk}
 use Rattle.esa_spec.specs.Turns.{order, writes}
-use Rattle.esa_spec.specs.Verdicts.{Step, first_bad, is_good, left, step_verdict}
+use Rattle.esa_spec.specs.Verdicts.{Step, first_bad, is_good, left, reached, step_verdict}
 use Rattle.esa_spec.specs.declared.event.Verdict.TheVariants.{Good}
 use Rattle.esa_vault.specs.Seals.{opens}
 use Rattle.esa_vault.specs.declared.fault.VaultFault.{VaultFault}
 use Rattle.esa_vault.specs.declared.fault.VaultFault.TheVariants.{Device, Tampered}
+use Rattle.esa_press.specs.Pressed.{Pressed}
 use Rattle.esa_press.specs.declared.halt.Halt.{Halt}
 use Rattle.esa_press.specs.declared.halt.Halt.TheVariants.{Verdict, Fault}
 
@@ -33,6 +35,18 @@ pub record AreCounted (p : Sizes) (d : Draw) (h counts tails : List ℕ) : Type 
   pub fits : left p d (order p.b h) ≡ None
   pub chunks : (j i : ℕ) → j < p.b → i < p.b → count_at p.b counts j i ≡ length (chunk p d (order p.b h) (exchange_of (order p.b h) j) i)
   pub waits : (i : ℕ) → i < p.b → slice_index tails i ≡ backlog p d (order p.b h) p.b i
+
+-- a press is of a floor and of its draws, whose chunks and tails are counted, and its queue has as many items as were reached
+-- with i targets and not put with j output buckets
+pub record IsAtImport {V : Type 0} (drawn_for : Sizes) (d : Draw) (a j i : ℕ) (f : Parts V) (w : Pressed) : Type 0 where
+  pub plan : w.plan ≡ f.plan
+  pub run : w.run ≡ f.run
+  pub coins : drawn_for ≡ f.plan
+  pub attempt : a < f.plan.attempts
+  pub ready : f.recorder.plan ≡ Some f.plan
+  pub counted : AreCounted f.plan d (turns_made f) f.counts w.tails
+  pub put : first f.plan j ≤ reached f.plan d i
+  pub waits : length w.queue ≡ reached f.plan d i - first f.plan j
 
 -- why the last access ended the steps: it failed, or it was a read of this attempt and gave a block that doesn't open for as
 -- many items as are counted

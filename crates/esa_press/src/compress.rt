@@ -7,14 +7,14 @@ ghost use Rattle.esa_device.specs.Logs.{Carried, IsFaithful};
 ghost use Rattle.esa_floor.specs.Keeping.{HasInput};
 ghost use Rattle.esa_floor.specs.Standing.{turns_made};
 ghost use Rattle.esa_floor.specs.Written.{EachTookItsBlock, NoWriteFailed, attempt_turns};
-ghost use Rattle.esa_params.specs.Sizes.{ArePlanned, first};
+ghost use Rattle.esa_params.specs.Sizes.{first};
 ghost use Rattle.esa_spec.specs.Turns.{order};
 ghost use Rattle.esa_spec.specs.Verdicts.{Import, imported, reached, steps, steps_of};
 ghost use Rattle.esa_report.specs.declared.item.Item.{Item};
-ghost use Rattle.esa_press.specs.Contents.{AreOrders, ArePut, EachOpens, EndsWriting, GoesOnPressing, HoldsDistribution, waiting_items};
+ghost use Rattle.esa_press.specs.Contents.{AreOrders, ArePut, EachOpens, EndsWriting, GoesOnPressing, HoldsDistribution, KeepsWaiting, PutsWaiting};
 ghost use Rattle.esa_press.specs.Fetched.{AreStored, GoesOnReading};
 ghost use Rattle.esa_press.specs.Records.{imported_items};
-ghost use Rattle.esa_press.specs.Stepped.{AreCounted, AreMade};
+ghost use Rattle.esa_press.specs.Stepped.{AreCounted, AreMade, IsAtImport};
 
 use crate::halt::Halt;
 use crate::press::Press;
@@ -32,27 +32,17 @@ impl Press {
         output: u32,
         target: u32,
     ) -> Result<(), Halt>
-        requires plan { self.old.plan ≡ floor.old.plan }
-        requires run { self.old.run ≡ floor.old.run }
-        requires coins { C.plan coins.now ≡ floor.old.plan }
-        requires attempt { attempt < floor.old.plan.attempts }
+        requires at { IsAtImport (C.plan coins.now) (G.draws attempt) attempt output target floor.old self.old }
         requires target { target < floor.old.plan.b }
-        requires ready { floor.old.recorder.plan ≡ Some floor.old.plan }
         requires room { floor.old.plan.b + 1 ≤ floor.old.recorder.room }
-        requires counted { AreCounted floor.old.plan (G.draws attempt) (turns_made floor.old) floor.old.counts self.old.tails }
-        requires put { first floor.old.plan output ≤ reached floor.old.plan (G.draws attempt) target }
-        requires waits { length self.old.queue ≡ reached floor.old.plan (G.draws attempt) target - first floor.old.plan output }
         ensures made { AreMade V.faults floor.old.plan floor.old.run (G.draws attempt) (order floor.old.plan.b (turns_made floor.old)) attempt (Import output target ∷ []) floor.old.recorder floor.new.recorder result }
         ensures waits { OnOk result (length self.new.queue ≡ reached floor.old.plan (G.draws attempt) (target + 1) - first floor.old.plan output) }
         ensures log { GoesOnReading floor.old.recorder.log floor.new.recorder.log }
         ensures gives { (chunks : ℕ → List Item) (left : List Item) → IsFaithful floor.old.plan floor.new.recorder.log
             → AreStored floor.old.plan floor.old.run attempt target floor.old.recorder.log chunks left
             → OnOk result (self.new.queue ≡ self.old.queue ++ held_in (imported_items floor.old.plan chunks left) (C.order_list coins.now attempt target)) }
-        ensures keeps { (record_of : ℕ → Item) → ArePlanned floor.old.plan → AreOrders floor.old.plan (G.draws attempt) (C.order_list coins.now attempt)
-            → HoldsDistribution floor.old.plan floor.old.run (G.draws attempt) (turns_made floor.old) attempt record_of floor.old.recorder.log
-            → IsFaithful floor.old.plan floor.new.recorder.log
-            → self.old.queue ≡ waiting_items floor.old.plan (G.draws attempt) (turns_made floor.old) record_of output target
-            → EachOpens result (self.new.queue ≡ waiting_items floor.old.plan (G.draws attempt) (turns_made floor.old) record_of output (target + 1)) (Unit {0}) }
+        ensures keeps { (record_of : ℕ → Item) → KeepsWaiting floor.old.plan floor.old.run (G.draws attempt) (turns_made floor.old) attempt (C.order_list coins.now attempt) record_of
+            output target (target + 1) floor.old.recorder.log floor.new.recorder.log self.old.queue self.new.queue result }
         ensures floor { floor.new ≡ record floor.old { recorder = floor.new.recorder } }
         ensures ready { floor.new.recorder.plan ≡ floor.old.recorder.plan }
         ensures total { length floor.new.recorder.trace + floor.new.recorder.room ≡ length floor.old.recorder.trace + floor.old.recorder.room }
@@ -73,25 +63,15 @@ impl Press {
         from: u32,
         end: u32,
     ) -> Result<(), Halt>
-        requires plan { self.old.plan ≡ floor.old.plan }
-        requires run { self.old.run ≡ floor.old.run }
-        requires coins { C.plan coins.now ≡ floor.old.plan }
-        requires attempt { attempt < floor.old.plan.attempts }
+        requires at { IsAtImport (C.plan coins.now) (G.draws attempt) attempt output from floor.old self.old }
         requires from { from ≤ end }
         requires end { end ≤ floor.old.plan.b }
-        requires ready { floor.old.recorder.plan ≡ Some floor.old.plan }
         requires room { (end - from) * (floor.old.plan.b + 1) ≤ floor.old.recorder.room }
-        requires counted { AreCounted floor.old.plan (G.draws attempt) (turns_made floor.old) floor.old.counts self.old.tails }
-        requires put { first floor.old.plan output ≤ reached floor.old.plan (G.draws attempt) from }
-        requires waits { length self.old.queue ≡ reached floor.old.plan (G.draws attempt) from - first floor.old.plan output }
         ensures made { AreMade V.faults floor.old.plan floor.old.run (G.draws attempt) (order floor.old.plan.b (turns_made floor.old)) attempt (map (Import output) (range_with_len from (end - from))) floor.old.recorder floor.new.recorder result }
         ensures waits { OnOk result (length self.new.queue ≡ reached floor.old.plan (G.draws attempt) end - first floor.old.plan output) }
         ensures log { GoesOnReading floor.old.recorder.log floor.new.recorder.log }
-        ensures keeps { (record_of : ℕ → Item) → ArePlanned floor.old.plan → AreOrders floor.old.plan (G.draws attempt) (C.order_list coins.now attempt)
-            → HoldsDistribution floor.old.plan floor.old.run (G.draws attempt) (turns_made floor.old) attempt record_of floor.old.recorder.log
-            → IsFaithful floor.old.plan floor.new.recorder.log
-            → self.old.queue ≡ waiting_items floor.old.plan (G.draws attempt) (turns_made floor.old) record_of output from
-            → EachOpens result (self.new.queue ≡ waiting_items floor.old.plan (G.draws attempt) (turns_made floor.old) record_of output end) (Unit {0}) }
+        ensures keeps { (record_of : ℕ → Item) → KeepsWaiting floor.old.plan floor.old.run (G.draws attempt) (turns_made floor.old) attempt (C.order_list coins.now attempt) record_of
+            output from end floor.old.recorder.log floor.new.recorder.log self.old.queue self.new.queue result }
         ensures floor { floor.new ≡ record floor.old { recorder = floor.new.recorder } }
         ensures ready { floor.new.recorder.plan ≡ floor.old.recorder.plan }
         ensures total { length floor.new.recorder.trace + floor.new.recorder.room ≡ length floor.old.recorder.trace + floor.old.recorder.room }
@@ -116,34 +96,20 @@ impl Press {
         from: u32,
         end: u32,
     ) -> Result<(), Halt>
-        requires plan { self.old.plan ≡ floor.old.plan }
-        requires run { self.old.run ≡ floor.old.run }
-        requires coins { C.plan coins.now ≡ floor.old.plan }
-        requires attempt { attempt < floor.old.plan.attempts }
+        requires at { IsAtImport (C.plan coins.now) (G.draws attempt) attempt output from floor.old self.old }
         requires output { output < floor.old.plan.b }
         requires from { from ≡ imported floor.old.plan output }
         requires end { end ≡ imported floor.old.plan (suc output) }
         requires rises { from ≤ end }
         requires within { end ≤ floor.old.plan.b }
-        requires ready { floor.old.recorder.plan ≡ Some floor.old.plan }
         requires room { (end - from) * (floor.old.plan.b + 1) + 1 ≤ floor.old.recorder.room }
-        requires counted { AreCounted floor.old.plan (G.draws attempt) (turns_made floor.old) floor.old.counts self.old.tails }
-        requires put { first floor.old.plan output ≤ reached floor.old.plan (G.draws attempt) from }
-        requires waits { length self.old.queue ≡ reached floor.old.plan (G.draws attempt) from - first floor.old.plan output }
         ensures made { AreMade V.faults floor.old.plan floor.old.run (G.draws attempt) (order floor.old.plan.b (turns_made floor.old)) attempt (steps_of floor.old.plan output) floor.old.recorder floor.new.recorder result }
         ensures put { OnOk result (first floor.old.plan (output + 1) ≤ reached floor.old.plan (G.draws attempt) end) }
         ensures waits { OnOk result (length self.new.queue ≡ reached floor.old.plan (G.draws attempt) end - first floor.old.plan (output + 1)) }
         ensures log { GoesOnPressing floor.old.recorder.log floor.new.recorder.log }
         ensures writes { NoWriteFailed floor.old.recorder.log → EndsWriting result floor.new.recorder.log }
-        ensures puts { (record_of : ℕ → Item) (before : List Carried) → ArePlanned floor.old.plan → AreOrders floor.old.plan (G.draws attempt) (C.order_list coins.now attempt)
-            → HoldsDistribution floor.old.plan floor.old.run (G.draws attempt) (turns_made floor.old) attempt record_of before
-            → ArePut floor.old.plan floor.old.run (G.draws attempt) (turns_made floor.old) attempt record_of output before floor.old.recorder.log
-            → IsFaithful floor.old.plan floor.new.recorder.log
-            → self.old.queue ≡ waiting_items floor.old.plan (G.draws attempt) (turns_made floor.old) record_of output from
-            → EachOpens result
-            (ArePut floor.old.plan floor.old.run (G.draws attempt) (turns_made floor.old) attempt record_of (output + 1) before floor.new.recorder.log
-            × (self.new.queue ≡ waiting_items floor.old.plan (G.draws attempt) (turns_made floor.old) record_of (output + 1) end))
-            (ArePut floor.old.plan floor.old.run (G.draws attempt) (turns_made floor.old) attempt record_of output before floor.new.recorder.log) }
+        ensures puts { (record_of : ℕ → Item) (before : List Carried) → PutsWaiting floor.old.plan floor.old.run (G.draws attempt) (turns_made floor.old) attempt (C.order_list coins.now attempt) record_of
+            output from end before floor.old.recorder.log floor.new.recorder.log self.old.queue self.new.queue result }
         ensures floor { floor.new ≡ record floor.old { recorder = floor.new.recorder } }
         ensures ready { floor.new.recorder.plan ≡ floor.old.recorder.plan }
         ensures total { length floor.new.recorder.trace + floor.new.recorder.room ≡ length floor.old.recorder.trace + floor.old.recorder.room }

@@ -1,13 +1,11 @@
 //! Blocks of items that are read.
 
-ghost use Rattle.std.specs.Prelude.{◌≡◌, ◌≢◌, ◌+◌, ◌*◌, ◌<◌, ◌≤◌, Some, All, OnOk, OnErr, length, map};
+ghost use Rattle.std.specs.Prelude.{◌≡◌, ◌≢◌, ◌+◌, ◌*◌, ◌<◌, ◌≤◌, Some, OnErr, length, map};
 ghost use Rattle.esa_params.specs.Sizes.{below};
 ghost use Rattle.esa_params.specs.Slots.{IsPlanned, block_length, item_length, plain_length};
-ghost use Rattle.esa_compress.specs.Held.{held_count};
-ghost use Rattle.esa_vault.specs.Placed.{IsSpelled};
 ghost use Rattle.esa_vault.specs.Seals.{opens};
 ghost use Rattle.esa_vault.specs.Traffic.{IsRead};
-ghost use Rattle.esa_press.specs.Fetched.{GivesRecords};
+ghost use Rattle.esa_press.specs.Fetched.{AreGot};
 ghost use Rattle.esa_press.specs.Records.{item_there};
 
 use esa_device::{Device, Recorder};
@@ -16,8 +14,8 @@ use esa_params::{Form, Plan, Region, Slot};
 use esa_report::Item;
 use esa_vault::{VaultFault, get_block, item_in_text};
 
-/// Reads the block of a slot into `sealed`, opens it into `text`, and has its items then. As many of them are no dummies
-/// as are counted. `items` is as it was where the block wasn't got.
+/// Reads the block of a slot into `sealed`, opens it into `text`, and has its items then. `items` is as it was where the
+/// block wasn't got.
 pub(crate) fn fetch_items<V: Device>(
     recorder: &mut Recorder<V>,
     plan: &Plan,
@@ -38,9 +36,7 @@ pub(crate) fn fetch_items<V: Device>(
     requires text { length text.old ≡ plain_length plan.now slot.region slot.index }
     requires items { length items.old * item_length plan.now.form ≡ plain_length plan.now slot.region slot.index }
     ensures read { IsRead V.told V.faults V.last_call plan.now slot attempt (opens plan.now keys.now slot attempt count) sealed.new recorder.old recorder.new result }
-    ensures counted { OnOk result (held_count items.new ≡ count) }
-    ensures spelled { OnOk result (All (IsSpelled (item_length plan.now.form)) items.new) }
-    ensures gives { GivesRecords plan.now keys.now slot attempt items.new recorder.old recorder.new result }
+    ensures got { AreGot plan.now keys.now slot attempt count items.new recorder.old recorder.new result }
     ensures unchanged { OnErr result (items.new ≡ items.old) }
 {
     get_block(recorder, plan, keys, slot, attempt, count, sealed, text)?;

@@ -12,7 +12,7 @@ ghost use Rattle.esa_compress.specs.Held.{held_count};
 ghost use Rattle.esa_vault.specs.Placed.{IsSpelled};
 ghost use Rattle.esa_vault.specs.Seals.{opens};
 ghost use Rattle.esa_vault.specs.Traffic.{IsRead};
-ghost use Rattle.esa_press.specs.Fetched.{AreStored, GivesRecords, IsFetched, IsStored};
+ghost use Rattle.esa_press.specs.Fetched.{AreGot, AreStored, IsFetched, IsStored};
 ghost use Rattle.esa_press.specs.Records.{imported_items};
 
 use crate::fetch::fetch_items;
@@ -101,9 +101,7 @@ fn fetch_tail<V: Device>(
     requires items { length items.old ≡ plan.now.b * plan.now.c + plan.now.k }
     ensures read { IsRead V.told V.faults V.last_call plan.now (at Region.Tail target) attempt (opens plan.now keys.now (at Region.Tail target) attempt count) sealed.new recorder.old recorder.new result }
     ensures front { take (plan.now.b * plan.now.c) items.new ≡ take (plan.now.b * plan.now.c) items.old }
-    ensures counted { OnOk result (held_count (drop (plan.now.b * plan.now.c) items.new) ≡ count) }
-    ensures spelled { OnOk result (All (IsSpelled (item_length plan.now.form)) (drop (plan.now.b * plan.now.c) items.new)) }
-    ensures gives { GivesRecords plan.now keys.now (at Region.Tail target) attempt (drop (plan.now.b * plan.now.c) items.new) recorder.old recorder.new result }
+    ensures got { AreGot plan.now keys.now (at Region.Tail target) attempt count (drop (plan.now.b * plan.now.c) items.new) recorder.old recorder.new result }
 {
     let from = plan.b() as usize * plan.c() as usize;
     let slot = Slot {
@@ -177,9 +175,7 @@ fn fetch_chunk<V: Device>(
     requires items { plan.now.b * plan.now.c ≤ length items.old }
     ensures read { IsRead V.told V.faults V.last_call plan.now (chunk_slot plan.now bucket target) attempt (opens plan.now keys.now (chunk_slot plan.now bucket target) attempt count) sealed.new recorder.old recorder.new result }
     ensures front { take (bucket * plan.now.c) items.new ≡ take (bucket * plan.now.c) items.old }
-    ensures counted { OnOk result (held_count (chunk_at plan.now.c items.new bucket) ≡ count) }
-    ensures spelled { OnOk result (All (IsSpelled (item_length plan.now.form)) (chunk_at plan.now.c items.new bucket)) }
-    ensures gives { GivesRecords plan.now keys.now (chunk_slot plan.now bucket target) attempt (chunk_at plan.now.c items.new bucket) recorder.old recorder.new result }
+    ensures got { AreGot plan.now keys.now (chunk_slot plan.now bucket target) attempt count (chunk_at plan.now.c items.new bucket) recorder.old recorder.new result }
 {
     let size = plan.c() as usize;
     let from = bucket as usize * size;
@@ -217,9 +213,7 @@ fn fetch_part<V: Device>(
     requires items { size * item_length plan.now.form ≡ plain_length plan.now slot.region slot.index }
     ensures read { IsRead V.told V.faults V.last_call plan.now slot attempt (opens plan.now keys.now slot attempt count) sealed.new recorder.old recorder.new result }
     ensures front { take from items.new ≡ take from items.old }
-    ensures counted { OnOk result (held_count (slice_range items.new from (from + size)) ≡ count) }
-    ensures spelled { OnOk result (All (IsSpelled (item_length plan.now.form)) (slice_range items.new from (from + size))) }
-    ensures gives { GivesRecords plan.now keys.now slot attempt (slice_range items.new from (from + size)) recorder.old recorder.new result }
+    ensures got { AreGot plan.now keys.now slot attempt count (slice_range items.new from (from + size)) recorder.old recorder.new result }
 {
     let part = &mut items[from..from + size];
     fetch_items(

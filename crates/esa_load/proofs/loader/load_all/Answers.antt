@@ -1,7 +1,5 @@
 -- One bucket more is loaded, or ends the load.
-use Rattle.std.proofs.Common.{◌≡◌, ℕ, ◌≤◌, List, [], take, refl, sym, ap, ◌∙◌, subst, arith, length-take-le}
-use Rattle.esa_params.specs.Slots.{plain_length}
-use Rattle.esa_params.specs.declared.slot.Region.TheVariants.{Input}
+use Rattle.std.proofs.Common.{◌≡◌, ℕ, List, [], refl, ap, ◌∙◌, subst, arith}
 use Rattle.esa_load.specs.Loads.{AreGiven, Source, written_blocks}
 use Rattle.esa_load.proofs.Giving.{given_none, load_ends, loaded_more}
 use Rattle.esa_load.proofs.loader.load_all.Goals as goal
@@ -17,12 +15,10 @@ loop-bucket-init g c =
       grounds = refl;
       count = refl;
       size = refl;
-      text = refl;
-      sealed = refl;
     }
 
-pub load_some-requires-clause-room : goal.load_some-requires-clause-room
-load_some-requires-clause-room g c =
+pub load_bucket-requires-clause-room : goal.load_bucket-requires-clause-room
+load_bucket-requires-clause-room g c =
     let room = c.loop-bucket.invariant.given.1.room in
     omega (arith, room, c.requires.room, c.loop-bucket-test.true, c.b-bucket-end.ensures.value)
 
@@ -33,22 +29,19 @@ loop-bucket-preserved g c =
     let inv = c.loop-bucket.invariant in
     let before : Source = record { faults = g.R.Records.faults c.args.batch.now; heard = g.R.Records.heard c.args.batch.now } in
     let between : Source = record { faults = g.R.Records.faults c.loop-bucket.batch; heard = g.R.Records.heard c.loop-bucket.batch } in
-    let after : Source = record { faults = g.R.Records.faults c.load_some.new.batch; heard = g.R.Records.heard c.load_some.new.batch } in
+    let after : Source = record { faults = g.R.Records.faults c.load_bucket.new.batch; heard = g.R.Records.heard c.load_bucket.new.batch } in
     let more = loaded_more g.V.Device.faults p c.args.run.now (g.R.Records.told c.args.batch.now) (g.R.Records.told c.loop-bucket.batch)
-    (g.R.Records.part (g.R.Records.grounds c.args.batch.now)) (g.R.Records.part (g.R.Records.grounds c.loop-bucket.batch)) k inv.given.0 (take (plain_length p Input k) c.load_some.new.text)
-    c.args.recorder.now c.loop-bucket.recorder c.load_some.new.recorder before between after inv.told (ap (λ ground. g.R.Records.part ground) inv.grounds)
-    (length-take-le (plain_length p Input k) c.load_some.new.text (subst (λ (n : ℕ). plain_length p Input k ≤ n) (sym c.load_some.ensures.text) c.load_some.ensures.fits))
-    inv.given.1 inv.device inv.calm c.in_default.field-0 c.in_default.ensures.end in
+    (g.R.Records.part (g.R.Records.grounds c.args.batch.now)) (g.R.Records.part (g.R.Records.grounds c.loop-bucket.batch)) k inv.given.0 c.load_bucket.new.text
+    c.args.recorder.now c.loop-bucket.recorder c.load_bucket.new.recorder before between after inv.told (ap (λ ground. g.R.Records.part ground) inv.grounds)
+    c.load_bucket.ensures.long inv.given.1 inv.device inv.calm c.in_default.field-0 c.in_default.ensures.end in
     record {
       given = (more.0, more.1);
       device = more.2;
       calm = more.3;
-      told = c.load_some.ensures.told ∙ inv.told;
-      grounds = c.load_some.ensures.grounds ∙ inv.grounds;
-      count = c.load_some.ensures.count ∙ inv.count;
-      size = c.load_some.ensures.size ∙ inv.size;
-      text = c.load_some.ensures.text ∙ inv.text;
-      sealed = c.load_some.ensures.sealed ∙ inv.sealed;
+      told = c.load_bucket.ensures.told ∙ inv.told;
+      grounds = c.load_bucket.ensures.grounds ∙ inv.grounds;
+      count = c.load_bucket.ensures.count ∙ inv.count;
+      size = c.load_bucket.ensures.size ∙ inv.size;
     }
 
 pub returns-in-Err-clause-end : goal.returns-in-Err-clause-end
@@ -58,12 +51,11 @@ returns-in-Err-clause-end g c =
     let inv = c.loop-bucket.invariant in
     let before : Source = record { faults = g.R.Records.faults c.args.batch.now; heard = g.R.Records.heard c.args.batch.now } in
     let between : Source = record { faults = g.R.Records.faults c.loop-bucket.batch; heard = g.R.Records.heard c.loop-bucket.batch } in
-    let after : Source = record { faults = g.R.Records.faults c.load_some.new.batch; heard = g.R.Records.heard c.load_some.new.batch } in
+    let after : Source = record { faults = g.R.Records.faults c.load_bucket.new.batch; heard = g.R.Records.heard c.load_bucket.new.batch } in
     load_ends g.V.Device.faults p c.args.run.now (g.R.Records.told c.args.batch.now) (g.R.Records.told c.loop-bucket.batch)
-    (g.R.Records.part (g.R.Records.grounds c.args.batch.now)) (g.R.Records.part (g.R.Records.grounds c.loop-bucket.batch)) k inv.given.0 (take (plain_length p Input k) c.load_some.new.text)
-    c.args.recorder.now c.loop-bucket.recorder c.load_some.new.recorder before between after inv.told (ap (λ ground. g.R.Records.part ground) inv.grounds)
-    (length-take-le (plain_length p Input k) c.load_some.new.text (subst (λ (n : ℕ). plain_length p Input k ≤ n) (sym c.load_some.ensures.text) c.load_some.ensures.fits))
-    inv.given.1 inv.device inv.calm (omega (arith, c.loop-bucket-test.true, c.b-bucket-end.ensures.value)) c.in-Err.fault c.in-Err.ensures.end
+    (g.R.Records.part (g.R.Records.grounds c.args.batch.now)) (g.R.Records.part (g.R.Records.grounds c.loop-bucket.batch)) k inv.given.0 c.load_bucket.new.text
+    c.args.recorder.now c.loop-bucket.recorder c.load_bucket.new.recorder before between after inv.told (ap (λ ground. g.R.Records.part ground) inv.grounds)
+    c.load_bucket.ensures.long inv.given.1 inv.device inv.calm (omega (arith, c.loop-bucket-test.true, c.b-bucket-end.ensures.value)) c.in-Err.fault c.in-Err.ensures.end
 
 pub returns-clause-end : goal.returns-clause-end
 returns-clause-end g c =

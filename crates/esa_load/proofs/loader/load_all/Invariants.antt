@@ -1,5 +1,5 @@
 -- The buckets before this one are loaded.
-use Rattle.std.proofs.Common.{◌≡◌, ℕ, List, length}
+use Rattle.std.proofs.Common.{◌≡◌, ℕ, List}
 use Rattle.esa_load.specs.Loads.{AreGiven, written_blocks}
 use Rattle.esa_load.proofs.loader.load_all.Given as goal
 
@@ -14,6 +14,4 @@ invariant-loop-bucket g l =
       grounds : g.R.Records.grounds l.batch ≡ g.R.Records.grounds l.fn.batch;
       count : g.R.Records.count l.batch ≡ g.R.Records.count l.fn.batch;
       size : g.R.Records.size l.batch ≡ g.R.Records.size l.fn.batch;
-      text : length l.text ≡ length l.fn.text;
-      sealed : length l.sealed ≡ length l.fn.sealed;
     }

@@ -52,8 +52,8 @@ loop-bucket-preserved g c =
           fetched_more g.V.Device.told g.V.Device.faults g.V.Device.last_call p c.args.keys.now c.args.attempt c.args.target c.args.counts.now
           x (chunk_slot p x c.args.target) (get_or c.args.counts.now x 0) c.args.recorder.now c.loop-bucket.recorder c.fetch_chunk.new.recorder tt c.fetch_chunk.new.sealed (Ok tt)
           (omega arith) (part_is_chunk p c.args.attempt c.args.target x inside) refl c.loop-bucket.invariant.fetched c.in_default.ensures.read;
-      counted = chunks_counted p.c x old new front c.args.counts.now (omega (arith, c.requires.each)) c.loop-bucket.invariant.counted c.in_default.ensures.counted;
-      spelled = chunks_spelled p.c x old new front size c.loop-bucket.invariant.spelled c.in_default.ensures.spelled;
+      counted = chunks_counted p.c x old new front c.args.counts.now (omega (arith, c.requires.each)) c.loop-bucket.invariant.counted c.in_default.ensures.got.counted;
+      spelled = chunks_spelled p.c x old new front size c.loop-bucket.invariant.spelled c.in_default.ensures.got.spelled;
       gives = λ records faithful stored.
           chunks_given p.c x old new front (λ j. padded p.c (records j))
           (c.loop-bucket.invariant.gives records
@@ -62,7 +62,7 @@ loop-bucket-preserved g c =
           c.loop-bucket.recorder c.fetch_chunk.new.recorder c.fetch_chunk.result c.fetch_chunk.ensures.read faithful)
           (λ j j_in. stored j (omega arith)))
           (records_got p c.args.keys.now (chunk_slot p x c.args.target) c.args.attempt p.c (chunk_at p.c new x) c.args.recorder.now c.loop-bucket.recorder c.fetch_chunk.new.recorder c.in_default.field-0 (records x)
-          (length_here p.c x old new front within) c.loop-bucket.invariant.fetched.log faithful c.in_default.ensures.gives (stored x (omega arith)));
+          (length_here p.c x old new front within) c.loop-bucket.invariant.fetched.log faithful c.in_default.ensures.got.gives (stored x (omega arith)));
     }
 
 pub returns-clause-gives : goal.returns-clause-gives

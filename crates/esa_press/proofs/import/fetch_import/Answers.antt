@@ -19,14 +19,14 @@ returns-clause-fetched g c =
 pub returns-clause-counted : goal.returns-clause-counted
 returns-clause-counted g c =
     let p = c.args.plan.now in
-    on_ok c.fetch_tail.result c.fetch_tail.ensures.counted
+    on_ok c.fetch_tail.result c.fetch_tail.ensures.got.counted
     (import_counted (p.b * p.c) c.fetch_chunks.new.items c.fetch_tail.new.items c.fetch_tail.ensures.front p.b (get_or c.args.counts.now c.b.result 0) c.args.counts.now
     c.requires.each c.in_default.ensures.counted (ap (λ (n : ℕ). get_or c.args.counts.now n 0) (sym c.b.ensures.value)))
 
 pub returns-clause-spelled : goal.returns-clause-spelled
 returns-clause-spelled g c =
     let p = c.args.plan.now in
-    on_ok c.fetch_tail.result c.fetch_tail.ensures.spelled
+    on_ok c.fetch_tail.result c.fetch_tail.ensures.got.spelled
     (import_spelled (p.b * p.c) c.fetch_chunks.new.items c.fetch_tail.new.items c.fetch_tail.ensures.front (item_length p.form) c.in_default.ensures.spelled)
 
 pub returns-clause-gives : goal.returns-clause-gives
@@ -42,5 +42,5 @@ returns-clause-gives g c = λ chunks left faithful stored.
     stored.chunk in
     on_ok c.fetch_tail.result
     (records_got-ok p c.args.keys.now (at Tail c.args.target) c.args.attempt p.k (drop n new) c.args.recorder.now c.fetch_chunks.new.recorder c.fetch_tail.new.recorder c.fetch_tail.result left
-    many c.in_default.ensures.fetched.log faithful c.fetch_tail.ensures.gives stored.left)
+    many c.in_default.ensures.fetched.log faithful c.fetch_tail.ensures.got.gives stored.left)
     (import_given n c.fetch_chunks.new.items new c.fetch_tail.ensures.front (flat_map (λ (j : ℕ). padded p.c (chunks j)) (below p.b)) (padded p.k left) before)

@@ -10,11 +10,11 @@ use Rattle.esa_spec.specs.Turns.{order}
 use Rattle.esa_spec.specs.Verdicts.{imported, reached, steps_of}
 use Rattle.esa_press.specs.Pressed.{Pressed}
 use Rattle.esa_press.specs.Stepped.{AreMade}
-use Rattle.esa_press.proofs.Stepping.{made_none, made_output, made_outputs_bad}
+use Rattle.esa_press.proofs.Stepping.{made_none, made_output, made_outputs_bad, still_at}
 use Rattle.esa_laws.proofs.LengthLaws.{imported-few, imported-rises}
-use Rattle.esa_press.proofs.Storing.{Puts, input_pressed, pressing_faithful, pressing_read, pressing_then, put_none, stops_with}
+use Rattle.esa_press.proofs.Storing.{input_pressed, pressing_faithful, pressing_read, pressing_then, put_none, stops_with}
 use Rattle.esa_press.proofs.Fetching.{reads_none}
-use Rattle.esa_press.specs.Contents.{ArePut}
+use Rattle.esa_press.specs.Contents.{ArePut, PutsWaiting}
 use Rattle.std.proofs.Math.Seq.{drop-nil}
 use Rattle.esa_floor.specs.Written.{EachTookItsBlock}
 use Rattle.esa_press.proofs.Taking.{took_put, took_put_until}
@@ -76,8 +76,8 @@ returns-in-Err-clause-outputs g c = λ record_of orders holds faithful.
     let plan_is : c.plan-plan.result ≡ f.plan = c.plan-plan.ensures ∙ c.requires.plan in
     let inside : j < f.plan.b = omega (arith, c.loop-output-test.true, c.b-output-end.ensures.value, ap (λ (q : Sizes). q.b) plan_is) in
     let planned : ArePlanned f.plan = subst ArePlanned plan_is c.w.ensures.limits in
-    let here : Puts {T = Unit {0}} f.plan f.run d h a lists record_of j c.loop-output.from c.min-end.result first_log old new c.loop-output.self.queue c.put_out.new.self.queue (Err c.in-Err.halt) =
-    subst (λ (x : Parts _). Puts {T = Unit {0}} x.plan x.run d (turns_made x) a lists record_of j c.loop-output.from c.min-end.result first_log old new c.loop-output.self.queue c.put_out.new.self.queue (Err c.in-Err.halt))
+    let here : PutsWaiting {T = Unit {0}} f.plan f.run d h a lists record_of j c.loop-output.from c.min-end.result first_log old new c.loop-output.self.queue c.put_out.new.self.queue (Err c.in-Err.halt) =
+    subst (λ (x : Parts _). PutsWaiting {T = Unit {0}} x.plan x.run d (turns_made x) a lists record_of j c.loop-output.from c.min-end.result first_log old new c.loop-output.self.queue c.put_out.new.self.queue (Err c.in-Err.halt))
     inv.floor (c.in-Err.ensures.puts record_of first_log) in
     let so_far = inv.puts record_of orders holds (pressing_faithful f.plan old new c.put_out.ensures.log faithful) in
     stops_with _ _ _ _ c.in-Err.halt (here planned orders holds so_far.0 faithful so_far.1) (λ put. (j, inside, put))
@@ -107,6 +107,13 @@ returns-clause-took g c = λ record_of made orders holds took.
     subst (λ (x : Parts _). EachTookItsBlock g.G.Told.draws record_of x) (sym c.loop-output.invariant.floor)
     (λ input. took_put f g.G.Told.draws a (turns_made f) record_of made new f.plan.b
     (returns-clause-outputs g c record_of orders holds input.faithful) took input)
+
+pub put_out-requires-clause-at : goal.put_out-requires-clause-at
+put_out-requires-clause-at g c =
+    let inv = c.loop-output.invariant in
+    let given = c.requires in
+    still_at (g.C.Coins.plan c.args.coins.now) (g.G.Told.draws c.args.attempt) c.args.attempt c.loop-output.output c.loop-output.from c.args.floor.now c.loop-output.floor c.args.self.now c.loop-output.self
+    inv.floor inv.others inv.ready given.plan given.run given.coins given.attempt given.ready given.counted inv.put inv.waits
 
 pub put_out-requires-clause-room : goal.put_out-requires-clause-room
 put_out-requires-clause-room g c =
@@ -180,8 +187,8 @@ loop-output-preserved g c =
       log = pressing_then f.recorder.log old.log new.log inv.log c.put_out.ensures.log;
       writes = λ none. c.in_default.ensures.writes (inv.writes none);
       puts = λ record_of orders holds faithful.
-          let one : Puts {T = Unit {0}} p f.run d h a lists record_of j c.loop-output.from c.min-end.result f.recorder.log old.log new.log c.loop-output.self.queue c.put_out.new.self.queue (Ok tt) =
-          subst (λ (x : Parts _). Puts {T = Unit {0}} x.plan x.run d (turns_made x) a lists record_of j c.loop-output.from c.min-end.result f.recorder.log old.log new.log c.loop-output.self.queue c.put_out.new.self.queue (Ok tt))
+          let one : PutsWaiting {T = Unit {0}} p f.run d h a lists record_of j c.loop-output.from c.min-end.result f.recorder.log old.log new.log c.loop-output.self.queue c.put_out.new.self.queue (Ok tt) =
+          subst (λ (x : Parts _). PutsWaiting {T = Unit {0}} x.plan x.run d (turns_made x) a lists record_of j c.loop-output.from c.min-end.result f.recorder.log old.log new.log c.loop-output.self.queue c.put_out.new.self.queue (Ok tt))
           inv.floor (c.in_default.ensures.puts record_of f.recorder.log) in
           let so_far = inv.puts record_of orders holds (pressing_faithful p old.log new.log c.put_out.ensures.log faithful) in
           one planned orders holds so_far.0 faithful so_far.1;

@@ -1,4 +1,4 @@
-use Rattle.std.proofs.Common.{◌≡◌, ◌+◌, ◌-◌, ◌*◌, ◌≤◌, ℕ, suc, [], ◌∷◌, Ok, Err, Some, map, refl, sym, ap, ◌∙◌, subst, arith}
+use Rattle.std.proofs.Common.{◌≡◌, ◌+◌, ◌-◌, ◌*◌, ◌≤◌, ℕ, suc, [], ◌∷◌, Ok, Err, map, refl, sym, ap, ◌∙◌, subst, arith}
 use Rattle.std.specs.List.{range_with_len}
 use Rattle.std.proofs.Math.Nat.{mul-le-mul_right}
 use Rattle.esa_compress.proofs.ImportLaws.{climbs}
@@ -8,40 +8,29 @@ use Rattle.esa_params.specs.Sizes.{Sizes, first}
 use Rattle.esa_spec.specs.Turns.{order}
 use Rattle.esa_spec.specs.Verdicts.{Import, reached}
 use Rattle.esa_press.specs.Pressed.{Pressed}
-use Rattle.esa_press.specs.Stepped.{AreCounted, AreMade}
-use Rattle.esa_press.proofs.Stepping.{made_import, made_imports_bad, made_none}
-use Rattle.esa_press.proofs.Storing.{Keeps, holds_read, reads_then, stops_too}
+use Rattle.esa_press.specs.Stepped.{AreMade}
+use Rattle.esa_press.proofs.Stepping.{made_import, made_imports_bad, made_none, still_at}
+use Rattle.esa_press.proofs.Storing.{holds_read, reads_then, stops_too}
 use Rattle.esa_press.proofs.Fetching.{faithful_before, reads_none}
-use Rattle.esa_press.specs.Contents.{waiting_items}
+use Rattle.esa_press.specs.Contents.{KeepsWaiting, waiting_items}
 use Rattle.esa_press.proofs.press.Press.import_ahead.Goals as goal
 
-pub import_target-requires-clause-plan : goal.import_target-requires-clause-plan
-import_target-requires-clause-plan g c =
+pub import_target-requires-clause-at : goal.import_target-requires-clause-at
+import_target-requires-clause-at g c =
     let inv = c.loop-target.invariant in
-    ap (λ (w : Pressed). w.plan) inv.others ∙ c.requires.plan ∙ sym (ap (λ (f : Parts _). f.plan) inv.floor)
-
-pub import_target-requires-clause-run : goal.import_target-requires-clause-run
-import_target-requires-clause-run g c =
-    let inv = c.loop-target.invariant in
-    ap (λ (w : Pressed). w.run) inv.others ∙ c.requires.run ∙ sym (ap (λ (f : Parts _). f.run) inv.floor)
-
-pub import_target-requires-clause-coins : goal.import_target-requires-clause-coins
-import_target-requires-clause-coins g c = c.requires.coins ∙ sym (ap (λ (f : Parts _). f.plan) c.loop-target.invariant.floor)
-
-pub import_target-requires-clause-attempt : goal.import_target-requires-clause-attempt
-import_target-requires-clause-attempt g c =
-    let same : c.loop-target.floor.plan.attempts ≡ c.args.floor.now.plan.attempts = ap (λ (f : Parts _). f.plan.attempts) c.loop-target.invariant.floor in
-    omega (arith, same, c.requires.attempt)
+    let f = c.args.floor.now in
+    let d = g.G.Told.draws c.args.attempt in
+    let n = c.loop-target.target - c.args.from in
+    let here : c.args.from + n ≡ c.loop-target.target = omega (arith, inv.from) in
+    let at = c.requires.at in
+    let rises = climbs f.plan d (turns_made f) at.counted.drawn at.counted.all at.counted.fits c.args.from n (omega (arith, inv.from, c.loop-target-test.true, c.requires.end)) in
+    still_at (g.C.Coins.plan c.args.coins.now) d c.args.attempt c.args.output c.loop-target.target f c.loop-target.floor c.args.self.now c.loop-target.self inv.floor inv.others inv.ready
+    at.plan at.run at.coins at.attempt at.ready at.counted (omega (arith, rises, at.put, ap (reached f.plan d) here)) inv.waits
 
 pub import_target-requires-clause-target : goal.import_target-requires-clause-target
 import_target-requires-clause-target g c =
     let same : c.loop-target.floor.plan.b ≡ c.args.floor.now.plan.b = ap (λ (f : Parts _). f.plan.b) c.loop-target.invariant.floor in
     omega (arith, same, c.requires.end, c.loop-target-test.true)
-
-pub import_target-requires-clause-ready : goal.import_target-requires-clause-ready
-import_target-requires-clause-ready g c =
-    let inv = c.loop-target.invariant in
-    inv.ready ∙ c.requires.ready ∙ ap Some (sym (ap (λ (f : Parts _). f.plan) inv.floor))
 
 pub import_target-requires-clause-room : goal.import_target-requires-clause-room
 import_target-requires-clause-room g c =
@@ -53,29 +42,6 @@ import_target-requires-clause-room g c =
     let product = mul-le-mul_right {m = suc n} {n = c.args.end - c.args.from} (b + 1) within in
     let one_more : suc n * (b + 1) ≡ n * (b + 1) + (b + 1) = omega arith in
     omega (arith, same, inv.used, c.requires.room, product, one_more)
-
-pub import_target-requires-clause-counted : goal.import_target-requires-clause-counted
-import_target-requires-clause-counted g c =
-    let inv = c.loop-target.invariant in
-    let d = g.G.Told.draws c.args.attempt in
-    subst (λ (f : Parts _). AreCounted f.plan d (turns_made f) f.counts c.loop-target.self.tails) (sym inv.floor)
-    (subst (λ (w : Pressed). AreCounted c.args.floor.now.plan d (turns_made c.args.floor.now) c.args.floor.now.counts w.tails) (sym inv.others) c.requires.counted)
-
-pub import_target-requires-clause-put : goal.import_target-requires-clause-put
-import_target-requires-clause-put g c =
-    let inv = c.loop-target.invariant in
-    let f = c.args.floor.now in
-    let d = g.G.Told.draws c.args.attempt in
-    let n = c.loop-target.target - c.args.from in
-    let here : c.args.from + n ≡ c.loop-target.target = omega (arith, inv.from) in
-    let rises = climbs f.plan d (turns_made f) c.requires.counted.drawn c.requires.counted.all c.requires.counted.fits c.args.from n (omega (arith, inv.from, c.loop-target-test.true, c.requires.end)) in
-    subst (λ (q : Sizes). first q c.args.output ≤ reached q d c.loop-target.target) (sym (ap (λ (f : Parts _). f.plan) inv.floor))
-    (omega (arith, rises, c.requires.put, ap (reached f.plan d) here))
-
-pub import_target-requires-clause-waits : goal.import_target-requires-clause-waits
-import_target-requires-clause-waits g c =
-    let inv = c.loop-target.invariant in
-    inv.waits ∙ ap (λ (q : Sizes). reached q (g.G.Told.draws c.args.attempt) c.loop-target.target - first q c.args.output) (sym (ap (λ (f : Parts _). f.plan) inv.floor))
 
 pub loop-target-init : goal.loop-target-init
 loop-target-init g c =
@@ -89,7 +55,7 @@ loop-target-init g c =
       ready = refl;
       total = refl;
       used = omega arith;
-      waits = c.requires.waits;
+      waits = c.requires.at.waits;
       made = subst (λ (n : ℕ). AreMade {T = Unit {0}} g.V.Device.faults f.plan f.run d (order f.plan.b (turns_made f)) c.args.attempt (map (Import c.args.output) (range_with_len c.args.from n)) f.recorder f.recorder (Ok tt))
           (sym none) (made_none g.V.Device.faults f.plan f.run d c.args.attempt (order f.plan.b (turns_made f)) f.recorder tt);
       log = reads_none f.recorder.log;
@@ -111,8 +77,8 @@ returns-in-Err-clause-keeps g c = λ record_of planned orders holds faithful wai
     let old = c.loop-target.floor.recorder.log in
     let new = c.import_target.new.floor.recorder.log in
     let lists = g.C.Coins.order_list c.args.coins.now a in
-    let here : Keeps {T = Unit {0}} f.plan f.run d h a lists record_of c.args.output t (t + 1) old new c.loop-target.self.queue c.import_target.new.self.queue (Err c.in-Err.halt) =
-    subst (λ (x : Parts _). Keeps {T = Unit {0}} x.plan x.run d (turns_made x) a lists record_of c.args.output t (t + 1) old new c.loop-target.self.queue c.import_target.new.self.queue (Err c.in-Err.halt))
+    let here : KeepsWaiting {T = Unit {0}} f.plan f.run d h a lists record_of c.args.output t (t + 1) old new c.loop-target.self.queue c.import_target.new.self.queue (Err c.in-Err.halt) =
+    subst (λ (x : Parts _). KeepsWaiting {T = Unit {0}} x.plan x.run d (turns_made x) a lists record_of c.args.output t (t + 1) old new c.loop-target.self.queue c.import_target.new.self.queue (Err c.in-Err.halt))
     inv.floor (c.in-Err.ensures.keeps record_of) in
     stops_too _ _ _ c.in-Err.halt
     (here planned orders (holds_read f.plan f.run d h a record_of f.recorder.log old inv.log holds) faithful
@@ -177,8 +143,8 @@ loop-target-preserved g c =
           c.in_default.ensures.made)));
       log = reads_then f.recorder.log old.log new.log inv.log c.import_target.ensures.log;
       keeps = λ record_of planned orders holds faithful waits.
-          let one : Keeps {T = Unit {0}} f.plan f.run d h a lists record_of c.args.output t (t + 1) old.log new.log c.loop-target.self.queue c.import_target.new.self.queue (Ok tt) =
-          subst (λ (x : Parts _). Keeps {T = Unit {0}} x.plan x.run d (turns_made x) a lists record_of c.args.output t (t + 1) old.log new.log c.loop-target.self.queue c.import_target.new.self.queue (Ok tt))
+          let one : KeepsWaiting {T = Unit {0}} f.plan f.run d h a lists record_of c.args.output t (t + 1) old.log new.log c.loop-target.self.queue c.import_target.new.self.queue (Ok tt) =
+          subst (λ (x : Parts _). KeepsWaiting {T = Unit {0}} x.plan x.run d (turns_made x) a lists record_of c.args.output t (t + 1) old.log new.log c.loop-target.self.queue c.import_target.new.self.queue (Ok tt))
           inv.floor (c.in_default.ensures.keeps record_of) in
           one planned orders (holds_read f.plan f.run d h a record_of f.recorder.log old.log inv.log holds) faithful
           (inv.keeps record_of planned orders holds (faithful_before f.plan old.log new.log c.import_target.ensures.log faithful) waits);

@@ -26,10 +26,10 @@ import-requires-clause-all g c =
     let w = c.args.self.now in
     let i = c.args.target in
     let parts : c.count.new.self.counts ≡ parts_counted f.plan f.counts w.tails i =
-    ap (λ (x : Pressed). x.counts) c.count.ensures ∙ ap (λ (q : Sizes). parts_counted q f.counts w.tails i) c.requires.plan in
-    let most : c.count.new.self.plan.n ≡ f.plan.n = ap (λ (x : Pressed). x.plan.n) c.count.ensures ∙ ap (λ (q : Sizes). q.n) c.requires.plan in
+    ap (λ (x : Pressed). x.counts) c.count.ensures ∙ ap (λ (q : Sizes). parts_counted q f.counts w.tails i) c.requires.at.plan in
+    let most : c.count.new.self.plan.n ≡ f.plan.n = ap (λ (x : Pressed). x.plan.n) c.count.ensures ∙ ap (λ (q : Sizes). q.n) c.requires.at.plan in
     let waits : length c.count.new.self.queue ≡ length w.queue = ap (λ (x : Pressed). length x.queue) c.count.ensures in
-    let few = waits_few g.V.Device.faults f.plan f.run (g.G.Told.draws c.args.attempt) c.args.attempt (turns_made f) f.counts w.tails c.requires.counted c.args.output i c.requires.target c.requires.put w.queue c.requires.waits in
+    let few = waits_few g.V.Device.faults f.plan f.run (g.G.Told.draws c.args.attempt) c.args.attempt (turns_made f) f.counts w.tails c.requires.at.counted c.args.output i c.requires.target c.requires.at.put w.queue c.requires.at.waits in
     omega (arith, few, ap sum parts, most, waits)
 
 pub import-requires-clause-few : goal.import-requires-clause-few
@@ -38,9 +38,9 @@ import-requires-clause-few g c = λ j j_in.
     let w = c.args.self.now in
     let i = c.args.target in
     let parts : c.count.new.self.counts ≡ parts_counted f.plan f.counts w.tails i =
-    ap (λ (x : Pressed). x.counts) c.count.ensures ∙ ap (λ (q : Sizes). parts_counted q f.counts w.tails i) c.requires.plan in
-    let same : c.count.new.self.plan ≡ f.plan = ap (λ (x : Pressed). x.plan) c.count.ensures ∙ c.requires.plan in
-    let few = parts_few f.plan (g.G.Told.draws c.args.attempt) (turns_made f) f.counts w.tails c.requires.counted i c.requires.target j (omega (arith, j_in, ap (λ (q : Sizes). q.b) same)) in
+    ap (λ (x : Pressed). x.counts) c.count.ensures ∙ ap (λ (q : Sizes). parts_counted q f.counts w.tails i) c.requires.at.plan in
+    let same : c.count.new.self.plan ≡ f.plan = ap (λ (x : Pressed). x.plan) c.count.ensures ∙ c.requires.at.plan in
+    let few = parts_few f.plan (g.G.Told.draws c.args.attempt) (turns_made f) f.counts w.tails c.requires.at.counted i c.requires.target j (omega (arith, j_in, ap (λ (q : Sizes). q.b) same)) in
     omega (arith, few, ap (λ (xs : List ℕ). slice_index xs j) parts, ap (λ (q : Sizes). q.c) same)
 
 pub import-requires-clause-few_left : goal.import-requires-clause-few_left
@@ -49,9 +49,9 @@ import-requires-clause-few_left g c =
     let w = c.args.self.now in
     let i = c.args.target in
     let parts : c.count.new.self.counts ≡ parts_counted f.plan f.counts w.tails i =
-    ap (λ (x : Pressed). x.counts) c.count.ensures ∙ ap (λ (q : Sizes). parts_counted q f.counts w.tails i) c.requires.plan in
-    let same : c.count.new.self.plan ≡ f.plan = ap (λ (x : Pressed). x.plan) c.count.ensures ∙ c.requires.plan in
-    let few = tail_few f.plan (g.G.Told.draws c.args.attempt) (turns_made f) f.counts w.tails c.requires.counted i c.requires.target in
+    ap (λ (x : Pressed). x.counts) c.count.ensures ∙ ap (λ (q : Sizes). parts_counted q f.counts w.tails i) c.requires.at.plan in
+    let same : c.count.new.self.plan ≡ f.plan = ap (λ (x : Pressed). x.plan) c.count.ensures ∙ c.requires.at.plan in
+    let few = tail_few f.plan (g.G.Told.draws c.args.attempt) (turns_made f) f.counts w.tails c.requires.at.counted i c.requires.target in
     let at_end = ap (λ (xs : List ℕ). slice_index xs c.count.new.self.plan.b) parts ∙ ap (λ (n : ℕ). slice_index (parts_counted f.plan f.counts w.tails i) n) (ap (λ (q : Sizes). q.b) same) in
     omega (arith, few, at_end, ap (λ (q : Sizes). q.k) same)
 
@@ -60,10 +60,10 @@ returns-clause-made g c =
     let f = c.args.floor.now in
     let w = c.args.self.now in
     let i = c.args.target in
-    import_made g.V.Device.faults f.plan f.run (g.G.Told.draws c.args.attempt) c.args.attempt (turns_made f) f.counts w.tails c.requires.counted c.args.output i c.requires.target c.requires.put
-    c.count.new.self (ap (λ (x : Pressed). x.plan) c.count.ensures ∙ c.requires.plan) (ap (λ (x : Pressed). x.run) c.count.ensures ∙ c.requires.run)
-    (ap (λ (x : Pressed). x.counts) c.count.ensures ∙ ap (λ (q : Sizes). parts_counted q f.counts w.tails i) c.requires.plan)
-    (ap (λ (x : Pressed). length x.queue) c.count.ensures ∙ c.requires.waits)
+    import_made g.V.Device.faults f.plan f.run (g.G.Told.draws c.args.attempt) c.args.attempt (turns_made f) f.counts w.tails c.requires.at.counted c.args.output i c.requires.target c.requires.at.put
+    c.count.new.self (ap (λ (x : Pressed). x.plan) c.count.ensures ∙ c.requires.at.plan) (ap (λ (x : Pressed). x.run) c.count.ensures ∙ c.requires.at.run)
+    (ap (λ (x : Pressed). x.counts) c.count.ensures ∙ ap (λ (q : Sizes). parts_counted q f.counts w.tails i) c.requires.at.plan)
+    (ap (λ (x : Pressed). length x.queue) c.count.ensures ∙ c.requires.at.waits)
     f.recorder c.import.new.recorder c.import.result
     (subst (λ (r : Recorded _). ImportAnswer g.V.Device.faults c.count.new.self.plan c.count.new.self.run c.args.attempt i c.count.new.self.counts c.count.new.self.queue r c.import.new.recorder c.import.result)
     c.recorder.ensures.value c.import.ensures.answer)
@@ -76,8 +76,8 @@ returns-clause-waits g c =
     on_ok c.import.result c.import.ensures.counted
     (λ grown. grown
     ∙ ap (λ (n : ℕ). n + sum c.count.new.self.counts) (ap (λ (x : Pressed). length x.queue) c.count.ensures)
-    ∙ ap (λ (n : ℕ). length w.queue + n) (ap (λ (x : Pressed). sum x.counts) c.count.ensures ∙ ap (λ (q : Sizes). sum (parts_counted q f.counts w.tails i)) c.requires.plan)
-    ∙ waits_more g.V.Device.faults f.plan f.run (g.G.Told.draws c.args.attempt) c.args.attempt (turns_made f) f.counts w.tails c.requires.counted c.args.output i c.requires.target c.requires.put w.queue c.requires.waits)
+    ∙ ap (λ (n : ℕ). length w.queue + n) (ap (λ (x : Pressed). sum x.counts) c.count.ensures ∙ ap (λ (q : Sizes). sum (parts_counted q f.counts w.tails i)) c.requires.at.plan)
+    ∙ waits_more g.V.Device.faults f.plan f.run (g.G.Told.draws c.args.attempt) c.args.attempt (turns_made f) f.counts w.tails c.requires.at.counted c.args.output i c.requires.target c.requires.at.put w.queue c.requires.at.waits)
 
 pub returns-clause-ready : goal.returns-clause-ready
 returns-clause-ready g c =
@@ -88,7 +88,7 @@ pub returns-clause-used : goal.returns-clause-used
 returns-clause-used g c =
     let keeps = (import_keeps g.V.Device.faults c.count.new.self.plan c.count.new.self.run c.args.attempt c.args.target c.count.new.self.counts c.count.new.self.queue c.recorder.result.now c.import.new.recorder c.import.result c.import.ensures.answer).1 in
     let room = ap (λ (r : Recorded _). r.room) c.recorder.ensures.value in
-    let same = ap (λ (x : Pressed). x.plan.b) c.count.ensures ∙ ap (λ (q : Sizes). q.b) c.requires.plan in
+    let same = ap (λ (x : Pressed). x.plan.b) c.count.ensures ∙ ap (λ (q : Sizes). q.b) c.requires.at.plan in
     omega (arith, keeps, room, same)
 
 pub returns-clause-log : goal.returns-clause-log
@@ -100,8 +100,8 @@ pub returns-clause-gives : goal.returns-clause-gives
 returns-clause-gives g c =
     let f = c.args.floor.now in
     let w = c.count.new.self in
-    let plan_is : w.plan ≡ f.plan = ap (λ (x : Pressed). x.plan) c.count.ensures ∙ c.requires.plan in
-    let run_is : w.run ≡ f.run = ap (λ (x : Pressed). x.run) c.count.ensures ∙ c.requires.run in
+    let plan_is : w.plan ≡ f.plan = ap (λ (x : Pressed). x.plan) c.count.ensures ∙ c.requires.at.plan in
+    let run_is : w.run ≡ f.run = ap (λ (x : Pressed). x.run) c.count.ensures ∙ c.requires.at.run in
     let queue_is : w.queue ≡ c.args.self.now.queue = ap (λ (x : Pressed). x.queue) c.count.ensures in
     let order = g.C.Coins.order_list c.args.coins.now c.args.attempt c.args.target in
     subst (λ (q : List Item). (chunks : ℕ → List Item) (left : List Item) → IsFaithful f.plan c.import.new.recorder.log → AreStored f.plan f.run c.args.attempt c.args.target f.recorder.log chunks left
@@ -126,17 +126,17 @@ returns-clause-keeps g c = λ record_of planned orders holds faithful waits.
     let a = c.args.attempt in
     let d = g.G.Told.draws a in
     let h = turns_made f in
-    let plan_is : w.plan ≡ f.plan = ap (λ (x : Pressed). x.plan) c.count.ensures ∙ c.requires.plan in
-    let run_is : w.run ≡ f.run = ap (λ (x : Pressed). x.run) c.count.ensures ∙ c.requires.run in
+    let plan_is : w.plan ≡ f.plan = ap (λ (x : Pressed). x.plan) c.count.ensures ∙ c.requires.at.plan in
+    let run_is : w.run ≡ f.run = ap (λ (x : Pressed). x.run) c.count.ensures ∙ c.requires.at.run in
     let parts_are : w.counts ≡ parts_counted f.plan f.counts c.args.self.now.tails i =
-    ap (λ (x : Pressed). x.counts) c.count.ensures ∙ ap (λ (q : Sizes). parts_counted q f.counts c.args.self.now.tails i) c.requires.plan in
+    ap (λ (x : Pressed). x.counts) c.count.ensures ∙ ap (λ (q : Sizes). parts_counted q f.counts c.args.self.now.tails i) c.requires.at.plan in
     let queue_is : w.queue ≡ c.args.self.now.queue = ap (λ (x : Pressed). x.queue) c.count.ensures in
     let same : c.recorder.result.now ≡ f.recorder = c.recorder.ensures.value in
-    import_kept f.plan f.run d h f.counts c.args.self.now.tails a c.requires.counted record_of i c.requires.target
+    import_kept f.plan f.run d h f.counts c.args.self.now.tails a c.requires.at.counted record_of i c.requires.target
     g.V.Device.faults f.recorder c.import.new.recorder c.args.output c.args.self.now.queue c.import.new.self.queue (g.C.Coins.order_list c.args.coins.now a i) c.import.result
-    planned (omega arith) c.requires.put (orders i c.requires.target) holds faithful
+    planned (omega arith) c.requires.at.put (orders i c.requires.target) holds faithful
     (import_answer_is g.V.Device.faults a i w f.plan f.run (parts_counted f.plan f.counts c.args.self.now.tails i) c.args.self.now.queue plan_is run_is parts_are queue_is
     c.recorder.result.now f.recorder c.import.new.recorder c.import.result same c.import.ensures.answer)
     (returns-clause-gives g c (λ j. map record_of (chunk f.plan d (order f.plan.b h) (exchange_of (order f.plan.b h) j) i)) (map record_of (tail f.plan d (order f.plan.b h) i)) faithful
-    (are_stored f.plan f.run d h f.counts c.args.self.now.tails a c.requires.counted record_of i c.requires.target f.recorder.log holds))
+    (are_stored f.plan f.run d h f.counts c.args.self.now.tails a c.requires.at.counted record_of i c.requires.target f.recorder.log holds))
     waits

@@ -20,7 +20,7 @@ use Rattle.esa_press.proofs.press.Press.put_out.Goals as goal
 
 pub put-requires-clause-bucket : goal.put-requires-clause-bucket
 put-requires-clause-bucket g c =
-    let same : c.import_ahead.new.self.plan.b ≡ c.args.floor.now.plan.b = ap (λ (w : Pressed). w.plan.b) c.import_ahead.ensures.others ∙ ap (λ (q : Sizes). q.b) c.requires.plan in
+    let same : c.import_ahead.new.self.plan.b ≡ c.args.floor.now.plan.b = ap (λ (w : Pressed). w.plan.b) c.import_ahead.ensures.others ∙ ap (λ (q : Sizes). q.b) c.requires.at.plan in
     omega (arith, same, c.requires.output)
 
 pub returns-in-Err-clause-made : goal.returns-in-Err-clause-made
@@ -45,10 +45,10 @@ returns-clause-made g c =
     let new = c.put.new.recorder in
     let n = c.args.end - c.args.from in
     let here : c.args.from + n ≡ c.args.end = omega (arith, c.requires.rises) in
-    let rises = climbs f.plan d (turns_made f) c.requires.counted.drawn c.requires.counted.all c.requires.counted.fits c.args.from n (omega (arith, c.requires.rises, c.requires.within)) in
-    let put : first f.plan j ≤ reached f.plan d c.args.end = omega (arith, rises, c.requires.put, ap (reached f.plan d) here) in
-    let plan_is : w.plan ≡ f.plan = ap (λ (x : Pressed). x.plan) c.import_ahead.ensures.others ∙ c.requires.plan in
-    let run_is : w.run ≡ f.run = ap (λ (x : Pressed). x.run) c.import_ahead.ensures.others ∙ c.requires.run in
+    let rises = climbs f.plan d (turns_made f) c.requires.at.counted.drawn c.requires.at.counted.all c.requires.at.counted.fits c.args.from n (omega (arith, c.requires.rises, c.requires.within)) in
+    let put : first f.plan j ≤ reached f.plan d c.args.end = omega (arith, rises, c.requires.at.put, ap (reached f.plan d) here) in
+    let plan_is : w.plan ≡ f.plan = ap (λ (x : Pressed). x.plan) c.import_ahead.ensures.others ∙ c.requires.at.plan in
+    let run_is : w.run ≡ f.run = ap (λ (x : Pressed). x.run) c.import_ahead.ensures.others ∙ c.requires.at.run in
     subst (λ (s : ℕ). AreMade {T = Unit {0}} g.V.Device.faults f.plan f.run d o c.args.attempt (map (Import j) (range_with_len s (imported f.plan (suc j) - s)) ++ Put j ∷ []) f.recorder new c.put.result) c.requires.from
     (subst (λ (e : ℕ). AreMade {T = Unit {0}} g.V.Device.faults f.plan f.run d o c.args.attempt (map (Import j) (range_with_len c.args.from (e - c.args.from)) ++ Put j ∷ []) f.recorder new c.put.result) c.requires.end
     (made_more g.V.Device.faults f.plan f.run d c.args.attempt o (map (Import j) (range_with_len c.args.from n)) (Put j ∷ []) f.recorder mid new c.in_default.field-0 c.put.result c.in_default.ensures.made
@@ -66,9 +66,9 @@ returns-clause-put g c =
     let w = c.import_ahead.new.self in
     let n = c.args.end - c.args.from in
     let here : c.args.from + n ≡ c.args.end = omega (arith, c.requires.rises) in
-    let rises = climbs f.plan d (turns_made f) c.requires.counted.drawn c.requires.counted.all c.requires.counted.fits c.args.from n (omega (arith, c.requires.rises, c.requires.within)) in
-    let put : first f.plan j ≤ reached f.plan d c.args.end = omega (arith, rises, c.requires.put, ap (reached f.plan d) here) in
-    let plan_is : w.plan ≡ f.plan = ap (λ (x : Pressed). x.plan) c.import_ahead.ensures.others ∙ c.requires.plan in
+    let rises = climbs f.plan d (turns_made f) c.requires.at.counted.drawn c.requires.at.counted.all c.requires.at.counted.fits c.args.from n (omega (arith, c.requires.rises, c.requires.within)) in
+    let put : first f.plan j ≤ reached f.plan d c.args.end = omega (arith, rises, c.requires.at.put, ap (reached f.plan d) here) in
+    let plan_is : w.plan ≡ f.plan = ap (λ (x : Pressed). x.plan) c.import_ahead.ensures.others ∙ c.requires.at.plan in
     on_ok c.put.result
     (put_waits g.V.Device.told g.V.Device.faults g.V.Device.last_call f.plan d w.run c.args.attempt j w.queue c.put.new.self.queue c.recorder.result.now c.put.new.recorder (reached f.plan d c.args.end) c.put.result
     (subst (λ (q : Sizes). PutAnswer g.V.Device.told g.V.Device.faults g.V.Device.last_call q w.run c.args.attempt j w.queue c.put.new.self.queue c.recorder.result.now c.put.new.recorder c.put.result) plan_is c.put.ensures.answer)
@@ -116,10 +116,10 @@ returns-clause-puts g c = λ record_of before planned orders holds so_far faithf
     let new = c.put.new.recorder in
     let n = i - c.args.from in
     let here : c.args.from + n ≡ i = omega (arith, c.requires.rises) in
-    let rises = climbs f.plan d h c.requires.counted.drawn c.requires.counted.all c.requires.counted.fits c.args.from n (omega (arith, c.requires.rises, c.requires.within)) in
-    let put : first f.plan j ≤ reached f.plan d i = omega (arith, rises, c.requires.put, ap (reached f.plan d) here) in
-    let plan_is : w.plan ≡ f.plan = ap (λ (x : Pressed). x.plan) c.import_ahead.ensures.others ∙ c.requires.plan in
-    let run_is : w.run ≡ f.run = ap (λ (x : Pressed). x.run) c.import_ahead.ensures.others ∙ c.requires.run in
+    let rises = climbs f.plan d h c.requires.at.counted.drawn c.requires.at.counted.all c.requires.at.counted.fits c.args.from n (omega (arith, c.requires.rises, c.requires.within)) in
+    let put : first f.plan j ≤ reached f.plan d i = omega (arith, rises, c.requires.at.put, ap (reached f.plan d) here) in
+    let plan_is : w.plan ≡ f.plan = ap (λ (x : Pressed). x.plan) c.import_ahead.ensures.others ∙ c.requires.at.plan in
+    let run_is : w.run ≡ f.run = ap (λ (x : Pressed). x.run) c.import_ahead.ensures.others ∙ c.requires.at.run in
     let next = first-more f.plan j in
     let long = c.in_default.ensures.waits in
     let answer = put_answer_is g.V.Device.told g.V.Device.faults g.V.Device.last_call a j w f.plan f.run plan_is run_is c.put.new.self.queue c.recorder.result.now mid new c.put.result c.recorder.ensures.value c.put.ensures.answer in
@@ -127,10 +127,10 @@ returns-clause-puts g c = λ record_of before planned orders holds so_far faithf
     let still = pressing_faithful f.plan mid.log new.log on faithful in
     let here_waits = c.in_default.ensures.keeps record_of planned orders (holds_on f.plan f.run d h a record_of j before f.recorder.log so_far.log holds) still waits in
     output_put f.plan f.run d h a record_of g.V.Device.told g.V.Device.faults g.V.Device.last_call j i before mid new w.queue c.put.new.self.queue c.put.result
-    c.requires.output c.requires.counted.all
+    c.requires.output c.requires.at.counted.all
     (λ enough. ap (take (size f.plan j)) here_waits
-    ∙ queue-front f.plan d h c.requires.counted.drawn c.requires.counted.all c.requires.counted.fits record_of j i c.requires.within (omega (arith, enough, next, put, long)))
-    (ap (drop (size f.plan j)) here_waits ∙ queue-put f.plan d h c.requires.counted.drawn c.requires.counted.all c.requires.counted.fits record_of j i)
+    ∙ queue-front f.plan d h c.requires.at.counted.drawn c.requires.at.counted.all c.requires.at.counted.fits record_of j i c.requires.within (omega (arith, enough, next, put, long)))
+    (ap (drop (size f.plan j)) here_waits ∙ queue-put f.plan d h c.requires.at.counted.drawn c.requires.at.counted.all c.requires.at.counted.fits record_of j i)
     (put_read f.plan f.run d h a record_of j before f.recorder.log mid.log so_far c.import_ahead.ensures.log) answer
 
 pub returns-in-Err-clause-writes : goal.returns-in-Err-clause-writes
