@@ -1,10 +1,12 @@
 //! The batch of several texts of submissions, with a thread for each text.
 
-ghost use Rattle.std.specs.Prelude.{◌≡◌, ◌+◌, ◌++◌, ◌≤◌, ◌<◌, ◌^◌, ℕ, [], Ok, OnOk, IfOk, IfErr, IfSome, All, length, map, slice_index_or};
+ghost use Rattle.std.specs.Prelude.{◌≡◌, ◌+◌, ◌++◌, ◌≤◌, ◌<◌, ◌^◌, ℕ, [], Ok, Err, OnOk, OnErr, IfOk, IfErr, IfSome, All, length, map, slice_index_or};
 ghost use Rattle.std.specs.List.{concat};
 ghost use Rattle.esa_bytes.specs.Lines.{text_lines};
+ghost use Rattle.esa_batcher.specs.Adding.{envelope_in};
 ghost use Rattle.esa_batcher.specs.declared.refused.AddRefused.TheVariants as add;
 ghost use Rattle.esa_intake.specs.Keeping.{IsSealedOf};
+ghost use Rattle.esa_intake.specs.Offering.{JoinsLine};
 ghost use Rattle.esa_intake.specs.Standing.{form_of, IsSender, number_of, put_of};
 ghost use Rattle.esa_shuffling.specs.Batch.{StopsBatching};
 ghost use Rattle.esa_gathering.specs.Crew.{PutsAllOrFewer, opened, HasAll};
@@ -13,7 +15,8 @@ ghost use Rattle.esa_gathering.specs.Together.{texts_of, all_lines, batched_toge
 use crate::together::{batch_together, line_total};
 use esa_batcher::{AddRefused, Batch, Batcher};
 use esa_bytes::split_line;
-use esa_intake::{Intake, Sealed, Sender, Stand};
+use esa_intake::{Intake, OfferRefused, Sealed, Sender, Stand};
+use esa_line::LineRefused;
 use esa_params::{Form, MOST_RECORDS};
 use esa_refusal::Stop;
 use std::alloc::Global;
@@ -21,7 +24,32 @@ use std::sync::Wait;
 use std::thread;
 use std::thread::Threads;
 
-/// Offers the lines of a text, up to the first that is refused or finds no room.
+/// Offers a line, and again while there is no room for it. There is room for all lines of all texts, so that no thread waits for
+/// another to take what it put.
+fn offer_line<R: Wait>(
+    rt: &R,
+    intake: &Intake,
+    sender: &mut Sender,
+    line: &[u8],
+) -> Result<(), LineRefused>
+    requires { IsSender intake.now sender.old }
+    ensures sender { IsSender intake.now sender.new }
+    ensures number { number_of sender.new ≡ number_of sender.old }
+    ensures put { OnOk result (JoinsLine (form_of intake.now) line.now (put_of sender.old) (put_of sender.new)) }
+    ensures unchanged { OnErr result (put_of sender.new ≡ put_of sender.old) }
+    ensures refused { IfErr result (λ refused. envelope_in (form_of intake.now) line.now ≡ Err refused.cause) }
+{
+    for _ in rt.forever() {
+        match intake.offer(rt, sender, line, 1) {
+            Ok(()) => return Ok(()),
+            Err(OfferRefused::Line(refused)) => return Err(refused),
+            Err(OfferRefused::Full) => thread::yield_now(),
+        }
+    }
+    unreachable!()
+}
+
+/// Offers the lines of a text, up to the first that is refused.
 fn offer_text<R: Wait>(rt: &R, intake: &Intake, sender: &mut Sender, text: &[u8])
     requires sender { IsSender intake.now sender.old }
     requires none { put_of sender.old ≡ [] }
@@ -31,7 +59,7 @@ fn offer_text<R: Wait>(rt: &R, intake: &Intake, sender: &mut Sender, text: &[u8]
 {
     let mut rest = text;
     while let Some((line, behind)) = split_line(rest) {
-        match intake.offer(rt, sender, line, 1) {
+        match offer_line(rt, intake, sender, line) {
             Ok(()) => rest = behind,
             Err(_) => return,
         }

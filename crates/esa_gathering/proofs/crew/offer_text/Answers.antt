@@ -27,7 +27,7 @@ loop-line-preserved g c =
     let i = c.loop-line.invariant in
     let form = form_of c.args.intake.now in
     let before = put_of c.loop-line.sender in
-    let now = put_of c.offer.new.sender in
+    let now = put_of c.offer_line.new.sender in
     let joins = c.in-Ok.ensures.put in
     record {
       sender = c.in-Ok.ensures.sender;
