@@ -2,8 +2,8 @@
 use Rattle.std.proofs.Common.{◌≡◌, ℕ, ◌≤◌, true, false, cond, ◌||◌, ◌==◌, List, [], ◌∷◌, ◌++◌, map, length, take, refl, sym, ap, ◌∙◌, append_assoc, append-nil, take_all}
 use Rattle.std.proofs.lemmas.Bool.{eqb-true}
 use Rattle.std.proofs.lemmas.List.{map-append, take_at}
-use Rattle.esa_recovery.specs.Meaning.{point_in, needed, is_seen, firsts}
-use Rattle.esa_recovery.specs.Group.{taken_with}
+use Rattle.esa_recovery.specs.Meaning.{point_in, needed}
+use Rattle.esa_recovery.specs.Group.{is_seen, firsts, taken_with}
 
 -- the records that a group is opened by: those taken, and those that are still to come
 abbrev pub chosen : List ℕ → List (List ℕ) → List (List ℕ) → List (List ℕ)

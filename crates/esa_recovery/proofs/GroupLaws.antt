@@ -1,7 +1,8 @@
 -- One more share record of a group.
-use Rattle.std.proofs.Common.{◌≡◌, ◌≢◌, ℕ, suc, ◌+◌, ◌-◌, ◌*◌, ◌<◌, ◌≤◌, Bool, true, false, cond, ◌||◌, ◌&&◌, ◌==◌, nat_eq, nat_lt, nat_le, List, [], ◌∷◌, ◌++◌, map, flat_map, length, drop, slice_index, None, All, refl, sym, ap, subst, ◌∙◌, arith, append-nil, length-append, suc-mul}
+use Rattle.std.proofs.Common.{◌≡◌, ◌≢◌, ℕ, suc, ◌+◌, ◌-◌, ◌*◌, ◌<◌, ◌≤◌, Bool, true, false, cond, ◌||◌, ◌&&◌, ◌==◌, nat_eq, nat_lt, nat_le, List, [], ◌∷◌, ◌++◌, map, flat_map, length, drop, slice_index, Option, None, All, refl, sym, ap, subst, ◌∙◌, arith, append-nil, length-append, suc-mul}
+use Rattle.std.specs.Prelude.{if◌then◌else◌}
 use Rattle.std.specs.List.{IsDistinct, list_any}
-use Rattle.std.proofs.lemmas.Bool.{lt-ltb, le-ltb, eq-eqb, ne_eqb, ltb-true, leb-true}
+use Rattle.std.proofs.lemmas.Bool.{lt-ltb, le-ltb, eq-eqb, eqb-true, ne_eqb, ltb-true, leb-true}
 use Rattle.std.proofs.lemmas.Cmp.{nat_eq_equiv}
 use Rattle.std.proofs.lemmas.Grind.{flat_map-append}
 use Rattle.std.proofs.lemmas.List.{map-append, length-map}
@@ -9,8 +10,8 @@ use Rattle.std.proofs.lemmas.List.Elements.{All-append, All-cons}
 use Rattle.std.proofs.lemmas.Map.Keys.{IsDistinct-push}
 use Rattle.esa_shares.specs.Polynomial.{ArePoints, recovered}
 use Rattle.esa_shares.specs.Share.{is_share}
-use Rattle.esa_recovery.specs.Meaning.{group_of, point_in, share_in, needed, is_seen, marked, opening}
-use Rattle.esa_recovery.specs.Group.{HasTaken, taken_with}
+use Rattle.esa_recovery.specs.Meaning.{point_in, share_in, needed, marked}
+use Rattle.esa_recovery.specs.Group.{HasTaken, is_seen, opening_of, point_and_share, taken_with}
 
 or_left : (a b : Bool) → a ≡ true → (a || b) ≡ true
 or_left true b h = refl
@@ -28,14 +29,30 @@ switched : (points : List ℕ) (y : ℕ) → list_any (λ x. nat_eq x y) points 
 switched [] y = refl
 switched (x ∷ xs) y = λ i. nat_eq_equiv.symm x y i || switched xs y i
 
-pub opening-few : (group : List ℕ) (values : List (List ℕ)) → length values < needed group → opening group values ≡ None
+points_of : (values : List (List ℕ)) → map (λ share. share.0) (map point_and_share values) ≡ map point_in values
+points_of [] = refl
+points_of (value ∷ values) = ap (λ rest. point_in value ∷ rest) (points_of values)
+
+shares_of : (values : List (List ℕ)) → flat_map (λ share. share.1) (map point_and_share values) ≡ flat_map share_in values
+shares_of [] = refl
+shares_of (value ∷ values) = ap (λ rest. share_in value ++ rest) (shares_of values)
+
+-- what the points and shares of so many records give back
+abbrev opening_at : List ℕ → (count : ℕ) → (points shares : List ℕ) → Option (List ℕ)
+opening_at group count points shares =
+    if nat_lt count (needed group) then None else marked (drop 2 group) (recovered (slice_index group 1 - 19) points shares)
+
+opening-records : (group : List ℕ) (values : List (List ℕ)) → opening_of group values ≡ opening_at group (length values) (map point_in values) (flat_map share_in values)
+opening-records group values = λ i. opening_at group (length-map values point_and_share i) (points_of values i) (shares_of values i)
+
+pub opening-few : (group : List ℕ) (values : List (List ℕ)) → length values < needed group → opening_of group values ≡ None
 opening-few group values few =
-    ap (λ b. cond b None (marked (drop 2 group) (recovered (slice_index group 1 - 19) (map point_in values) (flat_map share_in values)))) (lt-ltb (length values) (needed group) few)
+    opening-records group values ∙ ap (λ b. cond b None (marked (drop 2 group) (recovered (slice_index group 1 - 19) (map point_in values) (flat_map share_in values)))) (lt-ltb (length values) (needed group) few)
 
 pub opening-enough : (group : List ℕ) (values : List (List ℕ)) → needed group ≤ length values
-    → opening group values ≡ marked (drop 2 group) (recovered (slice_index group 1 - 19) (map point_in values) (flat_map share_in values))
+    → opening_of group values ≡ marked (drop 2 group) (recovered (slice_index group 1 - 19) (map point_in values) (flat_map share_in values))
 opening-enough group values enough =
-    ap (λ b. cond b None (marked (drop 2 group) (recovered (slice_index group 1 - 19) (map point_in values) (flat_map share_in values)))) (le-ltb (length values) (needed group) (omega arith))
+    opening-records group values ∙ ap (λ b. cond b None (marked (drop 2 group) (recovered (slice_index group 1 - 19) (map point_in values) (flat_map share_in values)))) (le-ltb (length values) (needed group) (omega arith))
 
 -- points with a new one
 pub ArePoints-push : (points : List ℕ) (point : ℕ) → IsDistinct nat_eq points → All (λ x. 0 < x) points → list_any (λ x. nat_eq x point) points ≡ false → 0 < point → ArePoints (points ++ point ∷ [])
@@ -89,32 +106,28 @@ module _ (group : List ℕ) (taken : List (List ℕ)) (value points shares : Lis
           ∙ (λ i. has.whole i + size i) ∙ sym (suc-mul (length points) (slice_index group 1 - 19)) ∙ ap (λ n. n * (slice_index group 1 - 19)) (sym more);
     })
 
-ends_hold : (a b c d e : Bool) → (a && b && c && d && e) ≡ true → (a ≡ true) × (e ≡ true)
-ends_hold true true true true true h = (refl, refl)
-ends_hold true true true true false h = cc
-ends_hold true true true false e h = cc
-ends_hold true true false d e h = cc
-ends_hold true false c d e h = cc
-ends_hold false b c d e h = cc
+-- the tests of a share record
+pub record IsShare (value : List ℕ) : Type 0 where
+  pub long : 19 < length value
+  pub first : slice_index value 0 ≡ 229
+  pub needs : 2 ≤ slice_index value 1
+  pub point : 0 < point_in value
 
--- the point of a share record is not 0
-pub share_point : (value : List ℕ) → is_share value ≡ true → 0 < point_in value
-share_point value is = ltb-true 0 (point_in value) (ends_hold (nat_lt 19 (length value)) (slice_index value 0 == 229) (nat_le 2 (slice_index value 1)) (nat_le (slice_index value 1) 16) (nat_lt 0 (slice_index value 2)) is).1
-
--- a share record is longer than what stands before its share
-pub share_long : (value : List ℕ) → is_share value ≡ true → 19 < length value
-share_long value is = ltb-true 19 (length value) (ends_hold (nat_lt 19 (length value)) (slice_index value 0 == 229) (nat_le 2 (slice_index value 1)) (nat_le (slice_index value 1) 16) (nat_lt 0 (slice_index value 2)) is).0
-
--- a share record takes some shares
-pub share_needed : (value : List ℕ) → is_share value ≡ true → 0 < needed (group_of value)
-share_needed value is =
-    omega (arith, leb-true 2 (slice_index value 1) (third (nat_lt 19 (length value)) (slice_index value 0 == 229) (nat_le 2 (slice_index value 1)) (nat_le (slice_index value 1) 16) (nat_lt 0 (slice_index value 2)) is))
+pub share_tests : (value : List ℕ) → is_share value ≡ true → IsShare value
+share_tests value is = all_hold (nat_lt 19 (length value)) (slice_index value 0 == 229) (nat_le 2 (slice_index value 1)) (nat_le (slice_index value 1) 16) (nat_lt 0 (slice_index value 2)) refl refl refl refl is
   where
-    third : (a b c d e : Bool) → (a && b && c && d && e) ≡ true → c ≡ true
-    third true true true d e h = refl
-    third true true false d e h = cc
-    third true false c d e h = cc
-    third false b c d e h = cc
+    all_hold : (a b c d e : Bool) → nat_lt 19 (length value) ≡ a → (slice_index value 0 == 229) ≡ b → nat_le 2 (slice_index value 1) ≡ c → nat_lt 0 (slice_index value 2) ≡ e → (a && b && c && d && e) ≡ true → IsShare value
+    all_hold true true true true true long first needs point h = record {
+      long = ltb-true 19 (length value) long;
+      first = eqb-true (slice_index value 0) 229 first;
+      needs = leb-true 2 (slice_index value 1) needs;
+      point = ltb-true 0 (slice_index value 2) point;
+    }
+    all_hold true true true true false long first needs point h = cc
+    all_hold true true true false e long first needs point h = cc
+    all_hold true true false d e long first needs point h = cc
+    all_hold true false c d e long first needs point h = cc
+    all_hold false b c d e long first needs point h = cc
 
 -- where nothing was taken
 pub HasTaken-empty : (group : List ℕ) → HasTaken group [] [] []

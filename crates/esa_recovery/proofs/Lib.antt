@@ -1,8 +1,10 @@
+pub mod EntryLaws
 pub mod FirstLaws
 pub mod GroupLaws
 pub mod MemberLaws
 pub mod NumberLaws
 pub mod SortedLaws
+pub mod LeastLaws
 pub mod RunLaws
 pub mod TakingLaws
 pub mod RecoveredLaws

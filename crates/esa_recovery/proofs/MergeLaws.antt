@@ -13,7 +13,7 @@ use Rattle.esa_recovery.specs.declared.sums.Sum.{Sum}
 use Rattle.esa_recovery.specs.Recovered.{summed}
 use Rattle.esa_recovery.specs.Sums.{plain}
 use Rattle.esa_recovery.proofs.SortedLaws.{by_bytes, past-run, same_bytes}
-use Rattle.esa_recovery.proofs.RecoveredLaws.{entries-none}
+use Rattle.esa_recovery.proofs.EntryLaws.{entries-none}
 use Rattle.esa_recovery.proofs.SumsLaws.{entries-run, summed-alike, tested-permutation}
 
 abbrev pub row_of : Sum → List ℕ × ℕ
@@ -115,7 +115,7 @@ run-fits sums sorted start n left is same small =
 pub merging-all : (sums sorted merged : List Sum) (start : ℕ) → IsPermutation sums sorted → All (λ (row : List ℕ × ℕ). 0 < row.1) (plain sums) → length sorted ≤ start
     → plain merged ++ finite.entries (summed Some (plain (drop start sorted))) ≡ finite.entries (summed Some (plain sorted)) → plain merged ≡ finite.entries (summed Some (plain sums))
 merging-all sums sorted merged start same positive end before =
-    sym (append-nil (plain merged)) ∙ ap (λ rows. plain merged ++ rows) (sym entries-none)
+    sym (append-nil (plain merged)) ∙ ap (λ rows. plain merged ++ rows) (sym (entries-none by_bytes))
     ∙ ap (λ left. plain merged ++ finite.entries (summed Some (plain left))) (sym (drop_all start sorted end)) ∙ before
     ∙ ap finite.entries (summed-alike Some Some (plain sorted) (plain sums) (positive-sorted sums sorted same positive) positive
     (λ test _. tested-permutation test (plain sums) (plain sorted) (IsPermutation-map row_of sums sorted same)))

@@ -7,7 +7,7 @@ use Rattle.std.specs.Ordering.{is_eq, is_lt, eq_by_cmp}
 use Rattle.std.specs.Cmp.Lexicographic.{slice_cmp, nat_list_cmp_total}
 use Rattle.std.specs.FinMap as finite
 use Rattle.std.specs.FinMap.Entries.{put, by_order}
-use Rattle.std.proofs.lemmas.Bool.{and_parts, false≢true}
+use Rattle.std.proofs.lemmas.Bool.{and_parts}
 use Rattle.std.proofs.lemmas.List.{length-map}
 use Rattle.std.proofs.lemmas.List.FromFn.{length-range_with_len}
 use Rattle.std.proofs.lemmas.List.Elements.{All-cons, All-head, All-nil, All-tail}
@@ -19,9 +19,10 @@ use Rattle.esa_shares.specs.Polynomial.{column, combined, recovered}
 use Rattle.esa_shares.specs.Share.{is_share, mark_of}
 use Rattle.esa_analyser.specs.Database.{Database, longest}
 use Rattle.esa_analyser.specs.Stored.{Stored}
-use Rattle.esa_analyser.specs.Rows.{AreRising, IsDatabase, IsRow}
-use Rattle.esa_recovery.specs.Meaning.{firsts, group_of, marked, meaning, members, needed, opened, opening, point_in, share_in}
+use Rattle.esa_analyser.specs.Rows.{IsDatabase, IsRow}
+use Rattle.esa_recovery.specs.Meaning.{group_of, least_shares, marked, meaning, members, needed, opened, opening}
 use Rattle.esa_recovery.specs.Recovered.{Sums, added, lost, recovered_database, summed, total}
+use Rattle.esa_recovery.proofs.EntryLaws.{entries-none, less-than}
 
 abbrev by_bytes : List ℕ → List ℕ → Ordering
 by_bytes = slice_cmp nat_cmp
@@ -79,16 +80,9 @@ abbrev pub AreMeant : ℕ → (List ℕ → Option (List ℕ)) → List (List �
 AreMeant most means [] = Unit {0}
 AreMeant most means (row ∷ rows) = IfSome (means row.0) (λ value. length value ≤ most) × AreMeant most means rows
 
-no_length : (rows : List (List ℕ × ℕ)) → length rows ≡ 0 → rows ≡ []
-no_length [] none = refl
-no_length (row ∷ rows) none = absurd (omega arith)
-
-pub entries-none : finite.entries (finite.empty {X = ℕ} {R = by_bytes}) ≡ []
-entries-none = no_length _ (sym (finite.len-entries finite.empty) ∙ finite.len-empty by_bytes ℕ)
-
 rows-summed : (most : ℕ) (means : List ℕ → Option (List ℕ)) (rows : List (List ℕ × ℕ)) → All (IsRow most) rows → AreMeant most means rows → counts rows < 2 ^ 32
     → All (IsRow most) (finite.entries (summed means rows))
-rows-summed most means [] are meant small = subst (All (IsRow most)) (sym entries-none) (All-nil (IsRow most))
+rows-summed most means [] are meant small = subst (All (IsRow most)) (sym (entries-none by_bytes)) (All-nil (IsRow most))
 rows-summed most means (row ∷ rows) are meant small =
     let whole = sum_by-cons (λ (row : List ℕ × ℕ). row.1) row rows in
     let head = All-head (IsRow most) row rows are in
@@ -109,17 +103,12 @@ few-summed : (means : List ℕ → Option (List ℕ)) (rows : List (List ℕ × 
 few-summed means [] = omega (arith, finite.len-empty by_bytes ℕ)
 few-summed means (row ∷ rows) = omega (arith, few-added (means row.0) row.1 (length rows) (summed means rows) (few-summed means rows))
 
-is-less : (r : Ordering) → is_lt r ≡ true → r ≡ Less
-is-less Less less = refl
-is-less Equal less = absurd (false≢true less)
-is-less Greater less = absurd (false≢true less)
-
 -- a key below all others isn't among them
 find-below : (k x : List ℕ) (rows : List (List ℕ × ℕ)) → by_bytes k x ≡ Less → finite.Entries.below_all by_bytes x rows ≡ true → finite.find by_bytes k rows ≡ None
 find-below k x [] less below = refl
 find-below k x (row ∷ rows) less below =
     let parts = and_parts (is_lt (by_bytes x row.0)) (finite.Entries.below_all by_bytes x rows) below in
-    let here : by_bytes k row.0 ≡ Less = nat_list_cmp_total.trans k x row.0 less (is-less (by_bytes x row.0) parts.0) in
+    let here : by_bytes k row.0 ≡ Less = nat_list_cmp_total.trans k x row.0 less (less-than (by_bytes x row.0) parts.0) in
     ap (λ r. cond (is_eq r) (Some row.1) (finite.find by_bytes k rows)) here ∙ find-below k x rows less parts.1
 
 -- a count that is added to that of its key
@@ -149,7 +138,7 @@ sum-added (Some value) count sums =
     omega (arith, now, put_is)
 
 sum-summed : (means : List ℕ → Option (List ℕ)) (rows : List (List ℕ × ℕ)) → counts (finite.entries (summed means rows)) + sum_by (λ (row : List ℕ × ℕ). lost (means row.0) row.1) rows ≡ counts rows
-sum-summed means [] = omega (arith, ap counts entries-none)
+sum-summed means [] = omega (arith, ap counts (entries-none by_bytes))
 sum-summed means (row ∷ rows) =
     omega (
       arith,
@@ -176,18 +165,21 @@ if-some false one other P first second = second
 marked-short : (mark value : List ℕ) (most : ℕ) → length value ≤ most → IfSome (marked mark value) (λ value. length value ≤ most)
 marked-short mark value most short = if-some (bytes_eq (mark_of value) mark) (Some value) None (λ value. length value ≤ most) short tt
 
-opening-short : (group : List ℕ) (values : List (List ℕ)) (most : ℕ) → slice_index group 1 - 19 ≤ most → IfSome (opening group values) (λ value. length value ≤ most)
-opening-short group values most short =
+opening-short : (group : List ℕ) (shares : List (ℕ × List ℕ)) (most : ℕ) → slice_index group 1 - 19 ≤ most → IfSome (opening group shares) (λ value. length value ≤ most)
+opening-short group shares most short =
     let size = slice_index group 1 - 19 in
-    let secret = recovered size (map point_in values) (flat_map share_in values) in
+    let points = map (λ (share : ℕ × List ℕ). share.0) shares in
+    let bytes = flat_map (λ (share : ℕ × List ℕ). share.1) shares in
+    let secret = recovered size points bytes in
     let long : length secret ≡ size =
-    length-map (below size) (λ y. combined (map point_in values) (map point_in values) (column size y (length (map point_in values)) (flat_map share_in values))) ∙ length-range_with_len 0 size in
-    if-some (nat_lt (length values) (needed group)) None (marked (drop 2 group) secret) (λ value. length value ≤ most) tt (marked-short (drop 2 group) secret most (omega (arith, long, short)))
+    length-map (below size) (λ y. combined points points (column size y (length points) bytes)) ∙ length-range_with_len 0 size in
+    if-some (nat_lt (length shares) (needed group)) None (marked (drop 2 group) secret) (λ value. length value ≤ most) tt (marked-short (drop 2 group) secret most (omega (arith, long, short)))
 
 meaning-short : (rows : List (List ℕ × ℕ)) (value : List ℕ) (most : ℕ) → length value ≤ most → IfSome (meaning rows value) (λ value. length value ≤ most)
 meaning-short rows value most short =
-    if-some (is_share value) (opened (group_of value) rows) (Some value) (λ value. length value ≤ most)
-    (opening-short (group_of value) (take (needed (group_of value)) (firsts [] (members (group_of value) rows))) most (omega (arith, short))) short
+    let group = group_of value in
+    if-some (is_share value) (opened group rows) (Some value) (λ value. length value ≤ most)
+    (opening-short group (take (needed group) (finite.entries (least_shares (members group rows)))) most (omega (arith, short))) short
 
 are-meant : (most : ℕ) (all rows : List (List ℕ × ℕ)) → All (IsRow most) rows → AreMeant most (meaning all) rows
 are-meant most all [] are = tt

@@ -1,5 +1,5 @@
 -- Runs of records of one group, in a list that is sorted by groups.
-use Rattle.std.proofs.Common.{◌≡◌, ◌≢◌, ℕ, ◌+◌, ◌-◌, ◌<◌, ◌≤◌, Bool, true, false, cond, ◌||◌, ◌==◌, List, [], ◌∷◌, ◌++◌, length, take, drop, get_or, Option, Some, refl, sym, ap, subst, ◌∙◌, append-nil, arith, drop-drop, get_or-drop, get_or-take, length-append, length-drop, length-take-le, take-add, take_all, take-append-drop}
+use Rattle.std.proofs.Common.{◌≡◌, ◌≢◌, ℕ, ◌+◌, ◌-◌, ◌<◌, ◌≤◌, Bool, true, false, cond, ◌||◌, ◌==◌, List, [], ◌∷◌, ◌++◌, length, take, drop, get_or, Option, None, Some, refl, sym, ap, subst, ◌∙◌, append-nil, arith, drop-drop, get_or-drop, get_or-take, length-append, length-drop, length-take-le, take-add, take_all, take-append-drop}
 use Rattle.std.specs.Prelude.{All, bytes_eq, if◌then◌else◌, slice_index}
 use Rattle.std.specs.List.{filter, list_any, slice_get}
 use Rattle.std.specs.List.Sorted.{IsSortedByKey}
@@ -10,9 +10,12 @@ use Rattle.std.proofs.lemmas.List.{get_or_append_left, get_or_default, get_or_pu
 use Rattle.std.proofs.lemmas.List.Elements.{All-drop, All-head, All-tail, All-take, filter-append}
 use Rattle.std.proofs.lemmas.List.Folds.{Any-from_list_any, list_any-append}
 use Rattle.esa_recovery.specs.declared.members.Member.{Member}
-use Rattle.esa_recovery.specs.Meaning.{group_of, given_back, members, opened}
+use Rattle.esa_analyser.specs.Rows.{AreRising}
+use Rattle.esa_recovery.specs.Group.{given_back}
+use Rattle.esa_recovery.specs.Meaning.{group_of, members, opened}
 use Rattle.esa_recovery.specs.Members.{value_at, IsMember, values_at, is_of, AreMembers}
 use Rattle.esa_recovery.specs.Groups.{OpensAt}
+use Rattle.esa_recovery.proofs.LeastLaws.{given_back-least}
 use Rattle.esa_recovery.proofs.SortedLaws.{by_bytes, apart_bytes, less-apart, past-run, same_bytes}
 
 -- the end of a run, whatever stands for an element past the end of the list
@@ -118,7 +121,7 @@ module _ (rows : List (List ℕ × ℕ)) (found : List Member) (start n : ℕ) (
     whole-next =
         subst (λ left. All (λ (member : Member). filter (is_of member.group) left ≡ filter (is_of member.group) found) left) (drop-drop n start found) whole-behind
 
-    module _ (named : All (IsMember rows) found) (are : AreMembers rows found) (value : Option (List ℕ)) (given : value ≡ given_back key (values_at rows run)) where
+    module _ (rising : AreRising None rows) (named : All (IsMember rows) found) (are : AreMembers rows found) (value : Option (List ℕ)) (given : value ≡ given_back key (values_at rows run)) where
       -- a row of a record of the run
       row-of-run : (row : ℕ) → list_any (λ (member : Member). member.row == row) run ≡ true → value ≡ opened (group_of (value_at rows row)) rows
       row-of-run row is =
@@ -127,7 +130,7 @@ module _ (rows : List (List ℕ × ℕ)) (found : List Member) (start n : ℕ) (
           let at : (get_or run k here.1).row ≡ row = ap (λ (member : Member). member.row) here.3 ∙ eqb-true here.1.row row here.4 in
           let known = All-take (IsMember rows) n rest (All-drop (IsMember rows) start found named) k here.1 here.2 in
           let group : key ≡ group_of (value_at rows row) = sym (run-own k here.1 here.2) ∙ known.group ∙ ap (λ r. group_of (value_at rows r)) at in
-          given ∙ ap (given_back key) (run-members are) ∙ ap (λ g. opened g rows) group
+          given ∙ ap (given_back key) (run-members are) ∙ given_back-least key rows rising ∙ ap (λ g. opened g rows) group
 
       pub opened-more : (numbers' : List ℕ)
           → ((row : ℕ) → slice_index numbers' row ≡ (if list_any (λ (member : Member). member.row == row) run then length values else slice_index numbers row))
@@ -161,11 +164,12 @@ Step rows found start n rest =
     → IsOpened rows found start values numbers → IsOpened rows found (start + length (take n rest)) (values ++ value ∷ []) numbers'
 
 pub opened-step : (rows : List (List ℕ × ℕ)) (found : List Member) (start n : ℕ) (left : List Member) → left ≡ drop start found
-    → IsSortedByKey (λ (member : Member). member.group) by_bytes found → All (IsMember rows) found → AreMembers rows found → Step rows found start n left
-opened-step rows found start n left is sorted named are = subst (Step rows found start n) (sym is)
+    → AreRising None rows → IsSortedByKey (λ (member : Member). member.group) by_bytes found → All (IsMember rows) found → AreMembers rows found
+    → Step rows found start n left
+opened-step rows found start n left is rising sorted named are = subst (Step rows found start n) (sym is)
     (λ e some fits one end value given values numbers numbers' written before.
     subst (λ m. IsOpened rows found (start + m) (values ++ value ∷ []) numbers') (sym (length-take-le n (drop start found) fits))
-    (opened-more rows found start n e sorted some fits one end values numbers before named are value given numbers' written))
+    (opened-more rows found start n e sorted some fits one end values numbers before rising named are value given numbers' written))
 
 -- at the end all rows of share records have their numbers
 pub opened-all : (rows : List (List ℕ × ℕ)) (found : List Member) (start : ℕ) (values : List (Option (List ℕ))) (numbers : List ℕ) → length found ≤ start

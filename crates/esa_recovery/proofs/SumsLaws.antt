@@ -1,5 +1,5 @@
 -- Sums of counts are what they count of each value.
-use Rattle.std.proofs.Common.{◌≡◌, ℕ, zero, suc, ◌+◌, ◌<◌, ◌≤◌, Bool, true, false, cond, ◌&&◌, replicate, List, [], ◌∷◌, length, take, drop, get_or, set, Option, Some, None, nat_cmp, Less, Equal, Greater, refl, sym, ap, ◌∙◌, arith, length-take-le}
+use Rattle.std.proofs.Common.{◌≡◌, ℕ, zero, suc, ◌+◌, ◌<◌, ◌≤◌, Bool, true, false, cond, replicate, List, [], ◌∷◌, length, take, drop, get_or, set, Option, Some, None, nat_cmp, Less, Equal, Greater, refl, sym, ap, ◌∙◌, arith, length-take-le}
 use Rattle.std.specs.Prelude.{All, unwrap_or, sum_by}
 use Rattle.std.specs.List.{slice_get}
 use Rattle.std.specs.declared.cmp.Ordering.{Ordering}
@@ -9,7 +9,6 @@ use Rattle.std.specs.FinMap as finite
 use Rattle.std.specs.FinMap.{slice_cmp-IsAntisymmetric, nat_cmp-IsAntisymmetric}
 use Rattle.std.specs.FinMap.Entries.{put, by_order}
 use Rattle.std.specs.List.Sorted.{IsPermutation}
-use Rattle.std.proofs.lemmas.Bool.{and_parts}
 use Rattle.std.proofs.lemmas.Option.{get_or_from_slice_get, slice_get_within}
 use Rattle.std.proofs.lemmas.List.{drop_more}
 use Rattle.std.proofs.lemmas.List.Elements.{All-cons, All-drop, All-head, All-tail, All-take}
@@ -17,7 +16,7 @@ use Rattle.std.proofs.lemmas.List.Sorted.{sum_by-IsPermutation}
 use Rattle.std.proofs.lemmas.List.Sums.{sum_by-cons, sum_by-take-drop}
 use Rattle.esa_recovery.specs.Recovered.{Sums, added, lost, summed}
 use Rattle.esa_recovery.specs.Sums.{counted, tested, tested_groups}
-use Rattle.esa_recovery.proofs.RecoveredLaws.{entries-none}
+use Rattle.esa_recovery.proofs.EntryLaws.{below-put, entries-none, find-front, put-front}
 
 abbrev by_bytes : List ℕ → List ℕ → Ordering
 by_bytes = slice_cmp nat_cmp
@@ -144,40 +143,13 @@ groups-none test (v ∷ values) (suc n) = omega (arith, nothing (test v), groups
 
 -- ---- runs of one value, in a list that is sorted
 
-below-put : (x k : List ℕ) (n : ℕ) (rows : List (List ℕ × ℕ)) → is_lt (by_bytes x k) ≡ true → finite.Entries.below_all by_bytes x rows ≡ true → finite.Entries.below_all by_bytes x (put by_bytes k n rows) ≡ true
-below-put x k n [] less below = ap (λ b. b && true) less
-below-put x k n (row ∷ rows) less below =
-    let parts = and_parts (is_lt (by_bytes x row.0)) (finite.Entries.below_all by_bytes x rows) below in
-    elim (by_bytes k row.0) as (λ r. finite.Entries.below_all by_bytes x (by_order r ((k, n) ∷ row ∷ rows) ((row.0, n) ∷ rows) (row ∷ put by_bytes k n rows)) ≡ true) [
-      | Less ↦ ap (λ b. b && finite.Entries.below_all by_bytes x (row ∷ rows)) less ∙ below
-      | Equal ↦ below
-      | Greater ↦ (λ i. parts.0 i && below-put x k n rows less parts.1 i)
-    ]
-
 -- what is below all values is below all that are kept
 below-summed : (x : List ℕ) (rows : List (List ℕ × ℕ)) → All (λ (row : List ℕ × ℕ). is_lt (by_bytes x row.0) ≡ true) rows → finite.Entries.below_all by_bytes x (finite.entries (summed Some rows)) ≡ true
-below-summed x [] above = ap (finite.Entries.below_all by_bytes x) entries-none
+below-summed x [] above = ap (finite.Entries.below_all by_bytes x) (entries-none by_bytes)
 below-summed x (row ∷ rows) above =
     ap (finite.Entries.below_all by_bytes x) (finite.entries-insert nat_list_cmp_total (summed Some rows) row.0 (unwrap_or (finite.get (summed Some rows) row.0) 0 + row.1))
-    ∙ below-put x row.0 (unwrap_or (finite.get (summed Some rows) row.0) 0 + row.1) (finite.entries (summed Some rows))
+    ∙ below-put by_bytes x row.0 (unwrap_or (finite.get (summed Some rows) row.0) 0 + row.1) (finite.entries (summed Some rows))
     (All-head (λ (row : List ℕ × ℕ). is_lt (by_bytes x row.0) ≡ true) row rows above) (below-summed x rows (All-tail (λ (row : List ℕ × ℕ). is_lt (by_bytes x row.0) ≡ true) row rows above))
-
-less-than : (r : Ordering) → is_lt r ≡ true → r ≡ Less
-less-than Less h = refl
-less-than Equal h = cc
-less-than Greater h = cc
-
-put-front : (x : List ℕ) (n : ℕ) (rows : List (List ℕ × ℕ)) → finite.Entries.below_all by_bytes x rows ≡ true → put by_bytes x n rows ≡ (x, n) ∷ rows
-put-front x n [] below = refl
-put-front x n (row ∷ rows) below =
-    ap (λ r. by_order r ((x, n) ∷ row ∷ rows) ((row.0, n) ∷ rows) (row ∷ put by_bytes x n rows))
-    (less-than (by_bytes x row.0) (and_parts (is_lt (by_bytes x row.0)) (finite.Entries.below_all by_bytes x rows) below).0)
-
-find-front : (x : List ℕ) (rows : List (List ℕ × ℕ)) → finite.Entries.below_all by_bytes x rows ≡ true → finite.find by_bytes x rows ≡ None
-find-front x [] below = refl
-find-front x (row ∷ rows) below =
-    let parts = and_parts (is_lt (by_bytes x row.0)) (finite.Entries.below_all by_bytes x rows) below in
-    ap (λ r. cond (is_eq r) (Some row.1) (finite.find by_bytes x rows)) (less-than (by_bytes x row.0) parts.0) ∙ find-front x rows parts.1
 
 -- one row before rows of greater values
 entries-front : (x : List ℕ) (n : ℕ) (rows : List (List ℕ × ℕ)) → All (λ (row : List ℕ × ℕ). is_lt (by_bytes x row.0) ≡ true) rows
@@ -185,9 +157,9 @@ entries-front : (x : List ℕ) (n : ℕ) (rows : List (List ℕ × ℕ)) → All
 entries-front x n rows above =
     let below = below-summed x rows above in
     finite.entries-insert nat_list_cmp_total (summed Some rows) x (unwrap_or (finite.get (summed Some rows) x) 0 + n)
-    ∙ ap (λ o. put by_bytes x (unwrap_or o 0 + n) (finite.entries (summed Some rows))) (finite.get-entries (summed Some rows) x ∙ find-front x (finite.entries (summed Some rows)) below)
+    ∙ ap (λ o. put by_bytes x (unwrap_or o 0 + n) (finite.entries (summed Some rows))) (finite.get-entries (summed Some rows) x ∙ find-front by_bytes x (finite.entries (summed Some rows)) below)
     ∙ ap (λ m. put by_bytes x m (finite.entries (summed Some rows))) (omega arith)
-    ∙ put-front x n (finite.entries (summed Some rows)) below
+    ∙ put-front by_bytes x n (finite.entries (summed Some rows)) below
 
 tested-one : (test : Option (List ℕ) → Bool) (x : List ℕ) (rows : List (List ℕ × ℕ)) → All (λ (row : List ℕ × ℕ). row.0 ≡ x) rows
     → tested test Some rows ≡ counted test (Some x) (sum_by (λ (row : List ℕ × ℕ). row.1) rows)

@@ -1,6 +1,9 @@
 -- What the rows of a database mean: share records give back a value together.
-use Rattle.std.specs.Prelude.{Bool, ◌&&◌, ℕ, ◌-◌, nat_lt, nat_eq, bytes_eq, cond, if◌then◌else◌, List, [], ◌∷◌, ◌++◌, length, take, drop, map, flat_map, slice_index, Option, Some, None}
-use Rattle.std.specs.List.{filter, list_any}
+use Rattle.std.specs.Prelude.{Bool, ◌&&◌, ℕ, ◌-◌, nat_lt, bytes_eq, if◌then◌else◌, List, [], ◌∷◌, length, take, drop, map, flat_map, slice_index, Option, Some, None}
+use Rattle.std.specs.List.{filter}
+use Rattle.std.specs.Ordering.{is_lt, nat_cmp}
+use Rattle.std.specs.Cmp.Lexicographic.{slice_cmp}
+use Rattle.std.specs.FinMap as finite
 use Rattle.esa_shares.specs.Polynomial.{recovered}
 use Rattle.esa_shares.specs.Share.{is_share, mark_of}
 
@@ -22,38 +25,41 @@ needed group = slice_index group 0
 abbrev pub belongs : List ℕ → List ℕ → Bool
 belongs group value = is_share value && bytes_eq (group_of value) group
 
--- the share records of a group, in the order of the rows
+-- the share records of a group
 abbrev pub members : List ℕ → List (List ℕ × ℕ) → List (List ℕ)
 members group rows = filter (belongs group) (map (λ row. row.0) rows)
 
-abbrev pub is_seen : List ℕ → List ℕ → Bool
-is_seen points value = list_any (λ point. nat_eq point (point_in value)) points
+-- shares by their points
+abbrev pub Shares : Type 0
+Shares = finite.FinMap nat_cmp (List ℕ)
 
--- Of each point that was not seen yet, the first record. Where the rows rise, its share is the least one of the point,
--- and the records stand by rising points.
-abbrev pub firsts : List ℕ → List (List ℕ) → List (List ℕ)
-firsts points [] = []
-firsts points (value ∷ values) =
-    cond (is_seen points value) (firsts points values) (value ∷ firsts (points ++ point_in value ∷ []) values)
+-- a share, or the one that there is already, if that is less
+abbrev pub lesser : Option (List ℕ) → List ℕ → List ℕ
+lesser None share = share
+lesser (Some other) share = if is_lt (slice_cmp nat_cmp other share) then other else share
+
+abbrev pub with_share : Shares → ℕ → List ℕ → Shares
+with_share shares point share = finite.insert shares point (lesser (finite.get shares point) share)
+
+-- of each point of share records the least share
+abbrev pub least_shares : List (List ℕ) → Shares
+least_shares [] = finite.empty
+least_shares (value ∷ values) = with_share (least_shares values) (point_in value) (share_in value)
 
 -- a value, where the mark is its own
 abbrev pub marked : List ℕ → List ℕ → Option (List ℕ)
 marked mark value = if bytes_eq (mark_of value) mark then Some value else None
 
--- what shares of a group give back, where they are enough and the group's mark is the value's
-abbrev pub opening : List ℕ → List (List ℕ) → Option (List ℕ)
-opening group values =
-    if nat_lt (length values) (needed group) then None
-    else marked (drop 2 group) (recovered (slice_index group 1 - 19) (map point_in values) (flat_map share_in values))
+-- what shares at points give back, where they are enough and the group's mark is the value's
+abbrev pub opening : List ℕ → List (ℕ × List ℕ) → Option (List ℕ)
+opening group shares =
+    if nat_lt (length shares) (needed group) then None
+    else marked (drop 2 group) (recovered (slice_index group 1 - 19) (map (λ share. share.0) shares) (flat_map (λ share. share.1) shares))
 
--- what the records of a group give back: by the shares at the first points, as many as it takes
-abbrev pub given_back : List ℕ → List (List ℕ) → Option (List ℕ)
-given_back group values = opening group (take (needed group) (firsts [] values))
-
--- what a group is opened to
+-- what a group is opened to: by the least shares of its least points, as many as it takes
 abbrev pub opened : List ℕ → List (List ℕ × ℕ) → Option (List ℕ)
-opened group rows = given_back group (members group rows)
+opened group rows = opening group (take (needed group) (finite.entries (least_shares (members group rows))))
 
--- a share record means what its group gives back, and any other value itself
+-- a share record means what its group is opened to, and any other value itself
 abbrev pub meaning : List (List ℕ × ℕ) → List ℕ → Option (List ℕ)
 meaning rows value = if is_share value then opened (group_of value) rows else Some value

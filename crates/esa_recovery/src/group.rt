@@ -4,8 +4,8 @@ ghost use Rattle.std.specs.Prelude.{◌≡◌, ◌<◌, ◌≤◌, ◌*◌, ◌-
 ghost use Rattle.std.specs.Option.{option_map};
 ghost use Rattle.esa_shares.specs.Polynomial.{ArePoints, recovered};
 ghost use Rattle.esa_shares.specs.Share.{is_share};
-ghost use Rattle.esa_recovery.specs.Meaning.{group_of, needed, marked, opening};
-ghost use Rattle.esa_recovery.specs.Group.{GroupHas, taken_with};
+ghost use Rattle.esa_recovery.specs.Meaning.{group_of, needed, marked};
+ghost use Rattle.esa_recovery.specs.Group.{GroupHas, opening_of, taken_with};
 
 use esa_shares::open_shares;
 use std::alloc::{AllocError, Global};
@@ -110,7 +110,7 @@ impl Group {
         requires long { 19 < slice_index key.now 1 }
         requires kept { (taken : List (List ℕ)) × GroupHas key.now taken self.now }
         ensures { (taken : List (List ℕ)) → GroupHas key.now taken self.now
-            → IfOk result (λ secret. option_map (λ bytes. bytes.items) secret ≡ opening key.now taken) }
+            → IfOk result (λ secret. option_map (λ bytes. bytes.items) secret ≡ opening_of key.now taken) }
     {
         let points = self.points.as_slice();
         if points.len() < usize::from(key[0]) {

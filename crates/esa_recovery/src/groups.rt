@@ -1,9 +1,10 @@
 //! What the groups of a database's share records give back.
 
-ghost use Rattle.std.specs.Prelude.{◌≡◌, ◌==◌, ◌<◌, ℕ, Some, All, length, if◌then◌else◌, slice_index, IfOk};
+ghost use Rattle.std.specs.Prelude.{◌≡◌, ◌==◌, ◌<◌, ℕ, None, Some, All, length, if◌then◌else◌, slice_index, IfOk};
 ghost use Rattle.std.specs.List.{list_any, slice_get};
 ghost use Rattle.std.specs.Option.{option_map};
-ghost use Rattle.esa_recovery.specs.Meaning.{given_back};
+ghost use Rattle.esa_analyser.specs.Rows.{AreRising};
+ghost use Rattle.esa_recovery.specs.Group.{given_back};
 ghost use Rattle.esa_recovery.specs.Members.{IsMember, values_at};
 ghost use Rattle.esa_recovery.specs.Groups.{given, Opens};
 
@@ -17,20 +18,6 @@ use std::alloc::{AllocError, Global};
 pub(crate) struct Groups {
     pub(crate) values: Vec<Option<Vec<u8>>>,
     pub(crate) numbers: Vec<usize>,
-}
-
-impl Groups {
-    /// What the group of the share record in a row gives back.
-    pub(crate) fn value(&self, row: u32) -> Option<&[u8]>
-        requires numbered { row < length self.now.numbers.items }
-        requires inside { slice_index self.now.numbers.items row < length self.now.values.items }
-        ensures { slice_get (given self.now) (slice_index self.now.numbers.items row) ≡ Some (option_map (λ value. value.now) result) }
-    {
-        match &self.values[self.numbers[row as usize]] {
-            Some(value) => Some(value.as_slice()),
-            None => None,
-        }
-    }
 }
 
 /// What the records of a group give back.
@@ -63,8 +50,10 @@ fn number_rows(run: &[Member], number: usize, numbers: &mut [usize])
     }
 }
 
-/// What the groups of a database give back. Each is opened once, with the first shares that are enough.
+/// What the groups of a database give back. Each is opened once, with the first share of each point until they are enough:
+/// since the rows rise, these are the least shares of the least points.
 pub(crate) fn groups_of(alloc: Global, db: &Db) -> Result<Groups, AllocError>
+    requires { AreRising None db.now.database.rows }
     ensures { IfOk result (λ groups. Opens db.now.database.rows groups) }
 {
     let found = members_of(alloc, db)?;

@@ -26,7 +26,7 @@ loop-start-preserved c =
     ∙ take_all c.loop-start.numbers.len written (omega (arith, c.number_rows.auto.numbers, c.deref_mut.ensures.len)) in
     let at : (row : ℕ) → slice_index written row ≡ (if list_any (λ (member : Member). member.row == row) (take n rest) then length values else slice_index numbers row) =
     λ row. c.number_rows.ensures row ∙ (λ i. if list_any (λ (member : Member). member.row == row) (take n rest) then many i else slice_index (c.deref_mut.ensures.value i) row) in
-    let next = opened-step rows found start n rest is c.in_ok-found.ensures.sorted c.in_ok-found.ensures.named c.in_ok-found.ensures.whole
+    let next = opened-step rows found start n rest is c.requires c.in_ok-found.ensures.sorted c.in_ok-found.ensures.named c.in_ok-found.ensures.whole
     _ c.run_length.ensures.some c.run_length.ensures.inside c.run_length.ensures.one c.run_length.ensures.end
     (option_map (λ value. value.items) c.in_ok-value.value) c.in_ok-value.ensures values numbers written at c.loop-start.invariant.opened in
     let pushed : map (option_map (λ value. value.items)) c.push.new.self.items ≡ values ++ option_map (λ value. value.items) c.in_ok-value.value ∷ [] =

@@ -1,9 +1,9 @@
 -- A record is passed over where its point was seen or the group is full, and else it is kept.
 use Rattle.std.proofs.Common.{◌≡◌, ◌≢◌, ◌-◌, false, [], ◌∷◌, ◌++◌, length, drop, sym, ap, subst, subst₂, ◌∙◌, length-drop, take_all, le_of_eq}
-use Rattle.esa_recovery.specs.Meaning.{group_of, needed, is_seen, share_in, point_in}
+use Rattle.esa_recovery.specs.Meaning.{group_of, needed, share_in, point_in}
 use Rattle.esa_recovery.specs.declared.group.Group.{Group}
-use Rattle.esa_recovery.specs.Group.{HasTaken, taken_with}
-use Rattle.esa_recovery.proofs.GroupLaws.{full-none, seen-none, one-kept, share_point}
+use Rattle.esa_recovery.specs.Group.{HasTaken, is_seen, taken_with}
+use Rattle.esa_recovery.proofs.GroupLaws.{full-none, seen-none, one-kept, share_tests}
 use Rattle.esa_recovery.proofs.group.Group.take.Goals as goal
 use Rattle.esa_recovery.proofs.group.Group.take.Goals.{then-points-wanted-via-then-points-wanted, then-points-wanted-via-else-points-wanted+then-contains}
 
@@ -26,4 +26,4 @@ returns c = λ taken has.
     let joined : c.extend_from_slice.new.self.items ≡ old.shares.items ++ share_in value = c.in_ok-extend_from_slice.ensures.items ∙ ap (λ ss. old.shares.items ++ ss) (take_all (length value - 19) (drop 19 value) (le_of_eq (length-drop 19 value))) in
     let wanted : length old.points.items ≢ needed (group_of value) = λ full. c.if-points-wanted.false (ap length c.as_slice-points.ensures.value ∙ full ∙ sym c.from-wanted.ensures) in
     subst₂ (HasTaken (group_of value) (taken_with (group_of value) taken value)) (sym items) (sym joined)
-    (one-kept (group_of value) taken value old.points.items old.shares.items has wanted new (share_point value c.requires.share) (length-drop 19 value))
+    (one-kept (group_of value) taken value old.points.items old.shares.items has wanted new (share_tests value c.requires.share).point (length-drop 19 value))
