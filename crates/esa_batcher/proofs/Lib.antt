@@ -8,6 +8,5 @@ pub mod OrderLaws
 pub mod PagingLaws
 pub mod FrontLaws
 pub mod ScanLaws
-pub mod Writing
 pub mod GatheringLaws
 pub mod LinesLaws

@@ -9,9 +9,9 @@ ghost use Rattle.esa_page.specs.Underway.{IsWhole, IsLeft};
 ghost use Rattle.esa_page.specs.Writing.{HasWritten, HasBroken};
 
 use crate::envelopes::Envelopes;
-use crate::write::write_parts;
 use esa_header::{FileKind, Header, put_header};
 use esa_outside::{Cabinet, Failed, Records};
+use esa_page::write_parts;
 use esa_params::Form;
 use std::marker::Model;
 

@@ -19,7 +19,6 @@ mod read;
 mod refused;
 mod rising;
 mod scan;
-mod write;
 
 pub use batch::Batch;
 pub use batcher::{Batcher, envelope_of};

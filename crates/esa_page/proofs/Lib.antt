@@ -1,3 +1,4 @@
 pub mod UnderwayLaws
 pub mod HeardLaws
 pub mod WritingLaws
+pub mod PartLaws

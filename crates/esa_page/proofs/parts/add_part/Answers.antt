@@ -1,6 +1,6 @@
 use Rattle.esa_page.proofs.UnderwayLaws.{HasCause-underway}
-use Rattle.esa_batcher.proofs.Writing.{part-added, part-left}
-use Rattle.esa_batcher.proofs.write.add_part.Goals as goal
+use Rattle.esa_page.proofs.PartLaws.{part-added, part-left}
+use Rattle.esa_page.proofs.parts.add_part.Goals as goal
 
 pub returns-clause-added : goal.returns-clause-added
 returns-clause-added g c = λ before text under.

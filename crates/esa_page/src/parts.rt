@@ -22,8 +22,8 @@ fn add_part<K: Cabinet>(cabinet: &mut K, name: &str, bytes: &[u8]) -> Result<(),
     cabinet.append(name, bytes)
 }
 
-/// Writes a file that is a front and the rest behind it. It starts anew.
-pub(crate) fn write_parts<K: Cabinet>(
+/// Writes a file that is a front and the rest behind it, both in memory. It starts anew, and takes no memory.
+pub fn write_parts<K: Cabinet>(
     cabinet: &mut K,
     name: &str,
     front: &[u8],

@@ -3,8 +3,8 @@ use Rattle.std.proofs.lemmas.Result.{err_from_is_err_and}
 use Rattle.esa_outside.specs.Cause.{HasCause}
 use Rattle.esa_page.proofs.UnderwayLaws.{IsUnderway-started, IsLeft-started, IsLeft-longer}
 use Rattle.esa_page.proofs.HeardLaws.{IsWriting-started, IsWriting-added, HasBroken-kept, HasBroken-longer}
-use Rattle.esa_batcher.proofs.Writing.{whole_ok, written_ok, broken_err}
-use Rattle.esa_batcher.proofs.write.write_parts.Goals as goal
+use Rattle.esa_page.proofs.PartLaws.{whole_ok, written_ok, broken_err}
+use Rattle.esa_page.proofs.parts.write_parts.Goals as goal
 
 pub returns-in_err-start-clause-left : goal.returns-in_err-start-clause-left
 returns-in_err-start-clause-left g c =
