@@ -162,20 +162,26 @@ module _ (p : Sizes) (keys : Keys) (attempt : ℕ) (records : ℕ → List Item)
     | inr there ↦ opens-latest told faults (scan p attempt) failed.0 old new result slot (scan-reads p attempt) there faithful sealed held
   ]
 
-  -- what both scans forward
+  -- both scans are given what the blocks were sealed with
+  pub both-given : {V : Type 0} (told : V → Option (List (List ℕ))) (faults : V → ℕ) (key drops : List ℕ) (t : ℕ) (old new : Recorded V) (sent : List ℕ)
+      → (done : HasForwarded told faults p keys attempt key drops t old new sent) → IsFaithful p new.log → AreSealed p keys attempt records old.log
+      → (items_from p keys attempt 0 done.first ≡ flat_map records (below p.b)) × (items_from p keys attempt 0 done.second ≡ flat_map records (below p.b))
+  both-given told faults key drops t old new sent done faithful sealed =
+      let whole : IsFaithful p (old.log ++ (carried_from p attempt 0 done.first ++ carried_from p attempt 0 done.second)) = subst (IsFaithful p) done.log faithful in
+      let parted : IsFaithful p ((old.log ++ carried_from p attempt 0 done.first) ++ carried_from p attempt 0 done.second) =
+      subst (IsFaithful p) (sym (append_assoc old.log (carried_from p attempt 0 done.first) (carried_from p attempt 0 done.second))) whole in
+      let front = faithful-front p (old.log ++ carried_from p attempt 0 done.first) (carried_from p attempt 0 done.second) parted in (
+        given-faithful 0 old.log done.first (omega (arith, done.whole_first)) sealed front ∙ ap (λ n. flat_map records (below n)) done.whole_first,
+        given-faithful 0 (old.log ++ carried_from p attempt 0 done.first) done.second (omega (arith, done.whole_second)) (sealed-scan 0 old.log done.first sealed) parted
+            ∙ ap (λ n. flat_map records (below n)) done.whole_second,
+      )
+
+  -- and forward its kept records
   pub forwarded-latest : {V : Type 0} (told : V → Option (List (List ℕ))) (faults : V → ℕ) (key drops : List ℕ) (t : ℕ) (old new : Recorded V) (sent : List ℕ)
       → HasForwarded told faults p keys attempt key drops t old new sent → IsFaithful p new.log → AreSealed p keys attempt records old.log
       → sent ≡ concat (forward p.form key drops t (flat_map records (below p.b)))
   forwarded-latest told faults key drops t old new sent done faithful sealed =
-      let whole : IsFaithful p (old.log ++ (carried_from p attempt 0 done.first ++ carried_from p attempt 0 done.second)) = subst (IsFaithful p) done.log faithful in
-      let parted : IsFaithful p ((old.log ++ carried_from p attempt 0 done.first) ++ carried_from p attempt 0 done.second) =
-      subst (IsFaithful p) (sym (append_assoc old.log (carried_from p attempt 0 done.first) (carried_from p attempt 0 done.second))) whole in
-      let front = faithful-front p (old.log ++ carried_from p attempt 0 done.first) (carried_from p attempt 0 done.second) parted in
-      let one : items_from p keys attempt 0 done.first ≡ flat_map records (below p.b) =
-      given-faithful 0 old.log done.first (omega (arith, done.whole_first)) sealed front ∙ ap (λ n. flat_map records (below n)) done.whole_first in
-      let two : items_from p keys attempt 0 done.second ≡ flat_map records (below p.b) =
-      given-faithful 0 (old.log ++ carried_from p attempt 0 done.first) done.second (omega (arith, done.whole_second)) (sealed-scan 0 old.log done.first sealed) parted
-      ∙ ap (λ n. flat_map records (below n)) done.whole_second in
+      let both = both-given told faults key drops t old new sent done faithful sealed in
       done.sent
-      ∙ (λ i. concat (sent_from p.form (kept_at (drops_in key drops) t (entries p.form key (one i))) 0 (two i)))
+      ∙ (λ i. concat (sent_from p.form (kept_at (drops_in key drops) t (entries p.form key (both.0 i))) 0 (both.1 i)))
       ∙ ap concat (sent-forwarded p.form key (drops_in key drops) t (flat_map records (below p.b)))

@@ -14,8 +14,9 @@ use Rattle.esa_spec.specs.Draws.{Draw}
 use Rattle.esa_spec.specs.Fronts.{Begins, EndsWith}
 use Rattle.esa_spec.specs.Histories.{begun}
 use Rattle.esa_spec.specs.Traces.{load, written_input}
-use Rattle.esa_device.specs.Logs.{Carried}
+use Rattle.esa_device.specs.Logs.{Carried, IsFaithful}
 use Rattle.esa_floor.specs.Ends.{IsLoading}
+use Rattle.esa_floor.specs.Keeping.{IsInput}
 use Rattle.esa_floor.specs.Parts.{Parts, ended_as}
 use Rattle.esa_floor.specs.Standing.{IsOf, Stands}
 use Rattle.esa_floor.specs.declared.turn.Outcome.TheVariants as outcome
@@ -24,7 +25,12 @@ use Rattle.esa_load.specs.declared.fault.LoadFault.{LoadFault}
 use Rattle.esa_load.specs.declared.fault.LoadFault.TheVariants.{Batch, Device}
 use Rattle.esa_crew.specs.Loads.{IsLoaded}
 use Rattle.esa_crew.proofs.Finishing.{batch_fails, load_fails}
-use Rattle.esa_shuffle.specs.Loading.{EndsLoad, HasGiven, IsNewFloor}
+use Rattle.esa_shuffle.specs.Loading.{EndsLoad, HasGiven, IsGiven, IsNewFloor, TakesInput}
+use Rattle.esa_shuffle.specs.Records.{record_at}
+
+-- where the log is faithful, it has the records that were given as its input
+abbrev pub IsInputOfLog : Sizes → Keys → Keys → List ℕ → List Carried → Type 0
+IsInputOfLog p outer run given log = IsFaithful p log → IsInput p outer run (record_at p outer given) log
 
 module _ {V : Type 0} (faults : V → ℕ) (p : Sizes) (ds : ℕ → Draw) (f : Parts V) (new : IsNewFloor faults p ds f) (r : Recorded V)
     (told : Option (List (List ℕ))) (part : ℕ → List ℕ → List Event) (given : List ℕ) (before after : Source)
@@ -121,40 +127,49 @@ module _ {V : Type 0} (faults : V → ℕ) (p : Sizes) (ds : ℕ → Draw) (f : 
           tt,
         )
 
-    -- what was given
-    pub all_given : (all : Type 0) → AreGiven f.plan told part f.plan.b given (written_blocks f.plan f.run given f.plan.b) f.recorder r before after
-        → HasGiven f.plan told part before.heard after.heard all
-    all_given all are = record {
-      given = given;
-      count = f.plan.b;
-      few = omega arith;
-      bytes = are.bytes;
-      as_told = are.as_told;
-      heard = are.heard;
-      whole = λ _. refl;
-    }
+    -- the floor takes what was given as its input
+    takes_input : AreGiven f.plan told part f.plan.b given (written_blocks f.plan f.run given f.plan.b) f.recorder r before after
+        → IsInputOfLog f.plan f.outer f.run given (f.recorder.log ++ written_blocks f.plan f.run given f.plan.b) → TakesInput loaded given
+    takes_input are is faithful =
+        subst (IsInput f.plan f.outer f.run (record_at f.plan f.outer given)) (sym are.log) (is (subst (IsFaithful f.plan) are.log faithful))
 
-    pub some_given : (k : ℕ) (entries : List Carried) → k ≤ f.plan.b → AreGiven f.plan told part k given entries f.recorder r before after
-        → HasGiven f.plan told part before.heard after.heard (false ≡ true)
-    some_given k entries few are = record {
-      given = given;
+    -- what was given
+    given_of : (all : Type 0) (k : ℕ) (entries : List Carried) → k ≤ f.plan.b → AreGiven f.plan told part k given entries f.recorder r before after
+        → (all → k ≡ f.plan.b) → IsGiven f.plan told part before.heard after.heard all given
+    given_of all k entries few are whole = record {
       count = k;
       few = few;
       bytes = are.bytes;
       as_told = are.as_told;
       heard = are.heard;
-      whole = λ (never : false ≡ true). absurd (cc never);
+      whole = whole;
+    }
+
+    pub all_given : AreGiven f.plan told part f.plan.b given (written_blocks f.plan f.run given f.plan.b) f.recorder r before after
+        → IsInputOfLog f.plan f.outer f.run given (f.recorder.log ++ written_blocks f.plan f.run given f.plan.b)
+        → HasGiven f.plan told part before.heard after.heard (true ≡ true) (TakesInput loaded)
+    all_given are is = record {
+      given = given;
+      load = given_of (true ≡ true) f.plan.b (written_blocks f.plan f.run given f.plan.b) (omega arith) are (λ _. refl);
+      became = takes_input are is;
+    }
+
+    pub some_given : (k : ℕ) (entries : List Carried) → k ≤ f.plan.b → AreGiven f.plan told part k given entries f.recorder r before after
+        → HasGiven f.plan told part before.heard after.heard (false ≡ true) (λ bytes. Unit {0})
+    some_given k entries few are = record {
+      given = given;
+      load = given_of (false ≡ true) k entries few are (λ (never : false ≡ true). absurd (cc never));
+      became = tt;
     }
 
 -- the same, where it is all under another condition
-pub given_where : (p : Sizes) (told : Option (List (List ℕ))) (part : ℕ → List ℕ → List Event) (before after : List Event) (all other : Type 0) → (other → all)
-    → HasGiven p told part before after all → HasGiven p told part before after other
-given_where p told part before after all other so has = record {
-  given = has.given;
-  count = has.count;
-  few = has.few;
-  bytes = has.bytes;
-  as_told = has.as_told;
-  heard = has.heard;
-  whole = λ is. has.whole (so is);
+pub given_where : (p : Sizes) (told : Option (List (List ℕ))) (part : ℕ → List ℕ → List Event) (before after : List Event) (all other : Type 0) (given : List ℕ) → (other → all)
+    → IsGiven p told part before after all given → IsGiven p told part before after other given
+given_where p told part before after all other given so load = record {
+  count = load.count;
+  few = load.few;
+  bytes = load.bytes;
+  as_told = load.as_told;
+  heard = load.heard;
+  whole = λ is. load.whole (so is);
 }

@@ -1,3 +1,4 @@
 pub mod Attempts
 pub mod Loading
+pub mod Records
 pub mod Runs

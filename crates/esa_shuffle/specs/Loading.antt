@@ -1,15 +1,18 @@
 -- The load of a run: a floor on which nothing was done, and how the load ends.
 use Rattle.std.specs.Prelude.{◌≡◌, ℕ, ◌*◌, ◌<◌, ◌≤◌, ◌++◌, List, [], flat_map, length, take, Option, Some, None, Result, Ok, Err}
 use Rattle.std.specs.List.{concat}
+use Rattle.esa_device.specs.Logs.{IsFaithful}
 use Rattle.esa_load.specs.Loads.{bucket_text}
 use Rattle.esa_outside.specs.Heard.{Event}
 use Rattle.esa_params.specs.Form.{envelope_length}
 use Rattle.esa_params.specs.Sizes.{ArePlanned, Sizes, below, first}
 use Rattle.esa_spec.specs.Draws.{Draw}
+use Rattle.esa_floor.specs.Keeping.{HasInput}
 use Rattle.esa_floor.specs.Parts.{Parts, begun_as, ended_as}
 use Rattle.esa_floor.specs.Standing.{Stands}
 use Rattle.esa_floor.specs.declared.turn.Outcome.{Outcome}
 use Rattle.esa_floor.specs.declared.turn.Outcome.TheVariants as outcome
+use Rattle.esa_shuffle.specs.Records.{record_at}
 use Rattle.esa_shuffle.specs.Runs.{IsCounted}
 
 -- a floor on which nothing was done, with room for an entry more
@@ -37,13 +40,22 @@ EndsLoad faults p ds f before now (Ok done) = Stands faults p ds (begun_as f 0) 
 EndsLoad faults p ds f before now (Err o) =
     Stands faults p ds (ended_as f o) × IsCounted f.plan.b (length f.recorder.trace) before now o × IsOfLoad o
 
--- what a batch gave in the load: the records of its first buckets, one after another. They are the told ones, where they are
--- told, and just these reads were heard. They are those of all buckets where this is so
-pub record HasGiven (p : Sizes) (told : Option (List (List ℕ))) (part : ℕ → List ℕ → List Event) (before after : List Event) (all : Type 0) : Type 0 where
-  pub given : List ℕ
+-- a batch gave these bytes in the load: the records of its first buckets, one after another. They are the told ones, where
+-- they are told, and just these reads were heard. They are those of all buckets where this is so
+pub record IsGiven (p : Sizes) (told : Option (List (List ℕ))) (part : ℕ → List ℕ → List Event) (before after : List Event) (all : Type 0) (given : List ℕ) : Type 0 where
   pub count : ℕ
   pub few : count ≤ p.b
   pub bytes : length given ≡ envelope_length p.form * first p count
   pub as_told : (records : List (List ℕ)) → told ≡ Some records → given ≡ concat (take (first p count) records)
   pub heard : after ≡ before ++ flat_map (λ j. part (first p j) (bucket_text p given j)) (below count)
   pub whole : all → count ≡ p.b
+
+-- a batch gave bytes in the load, and of them that became
+pub record HasGiven (p : Sizes) (told : Option (List (List ℕ))) (part : ℕ → List ℕ → List Event) (before after : List Event) (all : Type 0) (Became : List ℕ → Type 0) : Type 0 where
+  pub given : List ℕ
+  pub load : IsGiven p told part before after all given
+  pub became : Became given
+
+-- a floor has what a batch gave as its input, where its log is faithful
+abbrev pub TakesInput : {V : Type 0} → Parts V → List ℕ → Type 0
+TakesInput f given = IsFaithful f.plan f.recorder.log → HasInput f (record_at f.plan f.outer given)

@@ -1,13 +1,13 @@
 //! The load of a run.
 
-ghost use Rattle.std.specs.Prelude.{◌≡◌, IsOk};
+ghost use Rattle.std.specs.Prelude.{◌≡◌, IsOk, OnOk};
 ghost use Rattle.esa_params.specs.Form.{envelope_length};
-ghost use Rattle.esa_shuffle.specs.Loading.{EndsLoad, HasGiven, IsNewFloor};
+ghost use Rattle.esa_shuffle.specs.Loading.{EndsLoad, HasGiven, IsNewFloor, TakesInput};
 
 use esa_crew::loaded_floors_begin;
 use esa_device::Device;
 use esa_floor::{Floor, Outcome, Told};
-use esa_load::{LoadFault, Loader};
+use esa_load::{LoadFault, Loader, loaded_batches_are_input};
 use esa_outside::Records;
 
 /// Loads a batch on a floor on which nothing was done. Where the batch or the device failed, the run ends so.
@@ -22,7 +22,8 @@ pub(crate) fn load<V: Device, G: Told, R: Records>(
     requires count { R.count batch.old ≡ floor.old.plan.n }
     requires size { R.size batch.old ≡ envelope_length floor.old.plan.form }
     ensures ends { EndsLoad V.faults G.plan G.draws floor.new (R.faults batch.old) (R.faults batch.new) result }
-    ensures given { HasGiven floor.old.plan (R.told batch.old) (R.part (R.grounds batch.old)) (R.heard batch.old) (R.heard batch.new) (IsOk result) }
+    ensures given { HasGiven floor.old.plan (R.told batch.old) (R.part (R.grounds batch.old)) (R.heard batch.old) (R.heard batch.new) (IsOk result)
+        (λ bytes. OnOk result (TakesInput floor.new bytes)) }
     ensures floor { floor.new ≡ record floor.old { recorder = floor.new.recorder } }
     ensures told { R.told batch.new ≡ R.told batch.old }
     ensures grounds { R.grounds batch.new ≡ R.grounds batch.old }
@@ -32,6 +33,7 @@ pub(crate) fn load<V: Device, G: Told, R: Records>(
     match loader.load(floor.recorder(), batch) {
         Ok(()) => {
             loaded_floors_begin::<V>();
+            loaded_batches_are_input();
             Ok(())
         }
         Err(LoadFault::Batch(_)) => Err(Outcome::BatchFailed),

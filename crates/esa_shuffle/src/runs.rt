@@ -20,6 +20,7 @@ ghost use Rattle.esa_spec.specs.Fronts.{Begins};
 ghost use Rattle.esa_spec.specs.Verdicts as verdicts;
 ghost use Rattle.esa_shuffle.specs.Attempts.{outcome_of};
 ghost use Rattle.esa_shuffle.specs.Loading.{HasGiven, IsNewFloor};
+ghost use Rattle.esa_shuffle.specs.Records.{IsShuffledFrom};
 ghost use Rattle.esa_shuffle.specs.Runs.{EndsRun, MayEnd, entries_before, opens_last, seen_of};
 
 use crate::attempt::make_attempt;
@@ -137,7 +138,8 @@ fn load_and_run<V: Device, G: Told, C: Coins, R: Records>(
     requires count { R.count batch.old ≡ G.plan.n }
     requires size { R.size batch.old ≡ envelope_length G.plan.form }
     ensures ends { MayEnd V.faults G.plan G.draws (made G.plan G.draws turns.now) (R.faults batch.old) (R.faults batch.new) floor.new failures.new result }
-    ensures given { HasGiven G.plan (R.told batch.old) (R.part (R.grounds batch.old)) (R.heard batch.old) (R.heard batch.new) (floor.new.history ≢ []) }
+    ensures given { HasGiven G.plan (R.told batch.old) (R.part (R.grounds batch.old)) (R.heard batch.old) (R.heard batch.new) (floor.new.history ≢ [])
+        (IsShuffledFrom G.plan G.draws (made G.plan G.draws turns.now) floor.old.outer floor.old.run floor.new.recorder.log result) }
     ensures origin { roots_of floor.new ≡ roots_of floor.old }
     ensures told { R.told batch.new ≡ R.told batch.old }
     ensures grounds { R.grounds batch.new ≡ R.grounds batch.old }
@@ -182,7 +184,8 @@ pub(crate) fn run_on<V: Device, G: Told, C: Coins, R: Records>(
     requires size { R.size batch.old ≡ envelope_length G.plan.form }
     ensures ends { EndsRun G.plan G.draws (made G.plan G.draws turns.now) (seen_of V.faults floor.faults (R.faults batch.old) result.recorder result.history (R.faults batch.new))
         (opens_last G.plan floor.run result.recorder.last) result.failures result.outcome }
-    ensures given { HasGiven G.plan (R.told batch.old) (R.part (R.grounds batch.old)) (R.heard batch.old) (R.heard batch.new) (result.history ≢ G.plan.workers ∷ []) }
+    ensures given { HasGiven G.plan (R.told batch.old) (R.part (R.grounds batch.old)) (R.heard batch.old) (R.heard batch.new) (result.history ≢ G.plan.workers ∷ [])
+        (IsShuffledFrom G.plan G.draws (made G.plan G.draws turns.now) floor.outer floor.run result.recorder.log result.outcome) }
     ensures ready { result.recorder.plan ≡ Some G.plan }
     ensures room { greatest_trace G.plan ≤ length result.recorder.trace + result.recorder.room }
     ensures told { R.told batch.new ≡ R.told batch.old }

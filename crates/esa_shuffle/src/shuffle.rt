@@ -8,6 +8,7 @@ ghost use Rattle.esa_params.specs.Sizes.{ArePlanned};
 ghost use Rattle.esa_params.specs.Slots.{greatest_trace};
 ghost use Rattle.esa_spec.specs.Draws.{drawn};
 ghost use Rattle.esa_shuffle.specs.Loading.{HasGiven};
+ghost use Rattle.esa_shuffle.specs.Records.{IsShuffledFrom};
 ghost use Rattle.esa_shuffle.specs.Runs.{AreFresh, EndsRun, entries_before, entries_in, opens_last, seen_of};
 
 use crate::failures::Failures;
@@ -73,7 +74,8 @@ fn run_told<G: Told, V: Device, C: Coins, R: Records>(
     requires size { R.size batch.old ≡ envelope_length plan.form }
     ensures ends { IfOk result (λ ran. EndsRun plan G.draws (made plan G.draws turns.now) (seen_of V.faults (V.faults recorder.device) (R.faults batch.old) ran.recorder ran.history (R.faults batch.new))
         (opens_last plan run ran.recorder.last) ran.failures ran.outcome) }
-    ensures given { IfOk result (λ ran. HasGiven plan (R.told batch.old) (R.part (R.grounds batch.old)) (R.heard batch.old) (R.heard batch.new) (ran.history ≢ plan.workers ∷ [])) }
+    ensures given { IfOk result (λ ran. HasGiven plan (R.told batch.old) (R.part (R.grounds batch.old)) (R.heard batch.old) (R.heard batch.new) (ran.history ≢ plan.workers ∷ [])
+        (IsShuffledFrom plan G.draws (made plan G.draws turns.now) outer run ran.recorder.log ran.outcome)) }
     ensures fresh { IfOk result (λ ran. AreFresh plan ran.recorder.trace) }
     ensures ready { IfOk result (λ ran. ran.recorder.plan ≡ Some plan) }
     ensures room { IfOk result (λ ran. greatest_trace plan ≤ length ran.recorder.trace + ran.recorder.room) }
@@ -126,8 +128,11 @@ pub fn run_turns<V: Device, C: Coins, R: Records>(
         EndsRun plan ds (made plan ds turns.now) (seen_of V.faults (V.faults recorder.device) (R.faults batch.old) ran.recorder ran.history (R.faults batch.new))
         (opens_last plan run ran.recorder.last) ran.failures ran.outcome) }
 
-    // What the load has read are the records of the batch: of all its buckets, where an attempt was begun.
-    ensures given { IfOk result (λ ran. HasGiven plan (R.told batch.old) (R.part (R.grounds batch.old)) (R.heard batch.old) (R.heard batch.new) (ran.history ≢ plan.workers ∷ [])) }
+    // What the load has read are the records of the batch: of all its buckets, where an attempt was begun. Where the log of the
+    // run is faithful, these are the records that the attempt which succeeded put out, each at its place.
+    ensures given { IfOk result (λ ran. let ds = drawn (C.target_list coins.now) (C.order_list coins.now) in
+        HasGiven plan (R.told batch.old) (R.part (R.grounds batch.old)) (R.heard batch.old) (R.heard batch.new) (ran.history ≢ plan.workers ∷ [])
+        (IsShuffledFrom plan ds (made plan ds turns.now) outer run ran.recorder.log ran.outcome)) }
 
     // No write repeats a nonce.
     ensures fresh { IfOk result (λ ran. AreFresh plan ran.recorder.trace) }

@@ -67,7 +67,7 @@ returns-in-Ok-clause-given g c =
     let given = c.in-Ok.ensures.end.0 in
     let end = moved faults g.G.Told.plan g.G.Told.draws f c.requires.new r told part given before after c.args.loader.now.plan c.args.loader.now.run c.recorder.result.now (Ok c.in-Ok.field-0) c.requires.plan c.requires.run
     c.recorder.ensures.value c.in-Ok.ensures.end.1 in
-    all_given faults g.G.Told.plan g.G.Told.draws f c.requires.new r told part given before after (true ≡ true) end.0
+    all_given faults g.G.Told.plan g.G.Told.draws f c.requires.new r told part given before after end.0 (c.loaded_batches_are_input.ensures f.plan f.outer f.run given f.recorder.log)
 
 pub returns-in-Err-Batch-clause-given : goal.returns-in-Err-Batch-clause-given
 returns-in-Err-Batch-clause-given g c =

@@ -1,11 +1,13 @@
 -- The attempts end the run after the load, or the load does.
-use Rattle.std.proofs.Common.{◌≡◌, ◌≢◌, true, false, ℕ, [], refl, sym, ap, ◌∙◌, subst}
-use Rattle.esa_params.specs.Sizes.{Sizes}
+use Rattle.std.proofs.Common.{◌≡◌, ◌≢◌, true, false, ℕ, ◌*◌, List, [], refl, sym, ap, ◌∙◌, subst}
+use Rattle.esa_params.specs.Form.{envelope_length}
+use Rattle.esa_params.specs.Sizes.{Sizes, first}
 use Rattle.esa_floor.specs.Parts.{Parts}
 use Rattle.esa_model.specs.Forecast.{made}
-use Rattle.esa_shuffle.specs.Loading.{HasGiven}
+use Rattle.esa_shuffle.specs.Loading.{HasGiven, TakesInput}
 use Rattle.esa_shuffle.specs.Runs.{MayEnd}
 use Rattle.esa_shuffle.proofs.Loaded.{given_where}
+use Rattle.esa_shuffle.proofs.Records.{not_shuffled, shuffled_from}
 use Rattle.esa_shuffle.proofs.runs.load_and_run.Goals as goal
 
 pub returns-in-Ok-clause-ends : goal.returns-in-Ok-clause-ends
@@ -16,19 +18,38 @@ returns-in-Ok-clause-ends g c =
 
 pub returns-in-Ok-clause-given : goal.returns-in-Ok-clause-given
 returns-in-Ok-clause-given g c =
+    let p = g.G.Told.plan in
+    let ds = g.G.Told.draws in
+    let hs = made p ds c.args.turns.now in
+    let f = c.args.floor.now in
     let told = g.R.Records.told c.args.batch.now in
     let part = g.R.Records.part (g.R.Records.grounds c.args.batch.now) in
     let before = g.R.Records.heard c.args.batch.now in
     let after = g.R.Records.heard c.load.new.batch in
-    subst (λ (q : Sizes). HasGiven q told part before after (c.make_attempts.new.floor.history ≢ [])) c.requires.new.stands.of.plan
-    (given_where c.args.floor.now.plan told part before after (true ≡ true) (c.make_attempts.new.floor.history ≢ []) (λ _. refl) c.in-Ok.ensures.given)
+    let last = c.make_attempts.new.floor in
+    let o = c.make_attempts.result in
+    let has = subst (λ (q : Sizes). HasGiven q told part before after (true ≡ true) (TakesInput c.load.new.floor)) c.requires.new.stands.of.plan c.in-Ok.ensures.given in
+    record {
+      given = has.given;
+      load = given_where p told part before after (true ≡ true) (last.history ≢ []) has.given (λ _. refl) has.load;
+      became = shuffled_from p ds hs f c.load.new.floor last.recorder.log o has.given (ap (λ (x : Parts _). x.plan) c.load.ensures.floor ∙ c.requires.new.stands.of.plan)
+          (ap (λ (x : Parts _). x.outer) c.load.ensures.floor) (ap (λ (x : Parts _). x.run) c.load.ensures.floor)
+          (has.load.bytes ∙ ap (λ (n : ℕ). envelope_length p.form * first p n) (has.load.whole refl)) c.make_attempts.ensures.log c.make_attempts.ensures.outputs has.became;
+    }
 
 pub returns-in-Err-clause-given : goal.returns-in-Err-clause-given
 returns-in-Err-clause-given g c =
+    let p = g.G.Told.plan in
+    let ds = g.G.Told.draws in
+    let f = c.args.floor.now in
     let told = g.R.Records.told c.args.batch.now in
     let part = g.R.Records.part (g.R.Records.grounds c.args.batch.now) in
     let before = g.R.Records.heard c.args.batch.now in
     let after = g.R.Records.heard c.load.new.batch in
-    subst (λ (q : Sizes). HasGiven q told part before after (c.load.new.floor.history ≢ [])) c.requires.new.stands.of.plan
-    (given_where c.args.floor.now.plan told part before after (false ≡ true) (c.load.new.floor.history ≢ [])
-    (λ some. absurd (some (ap (λ (x : Parts _). x.history) c.load.ensures.floor ∙ c.requires.new.history))) c.in-Err.ensures.given)
+    let has = subst (λ (q : Sizes). HasGiven q told part before after (false ≡ true) (λ bytes. Unit {0})) c.requires.new.stands.of.plan c.in-Err.ensures.given in
+    record {
+      given = has.given;
+      load = given_where p told part before after (false ≡ true) (c.load.new.floor.history ≢ []) has.given
+          (λ some. absurd (some (ap (λ (x : Parts _). x.history) c.load.ensures.floor ∙ c.requires.new.history))) has.load;
+      became = not_shuffled p ds (made p ds c.args.turns.now) f.outer f.run c.load.new.floor.recorder.log c.in-Err.outcome has.given c.in-Err.ensures.ends.2;
+    }

@@ -1,9 +1,11 @@
 -- The floor was given up as it had ended.
-use Rattle.std.proofs.Common.{◌≢◌, ℕ, List, [], ◌∷◌, ◌++◌, ap, ap₂, ◌∙◌}
+use Rattle.std.proofs.Common.{◌≢◌, ℕ, List, [], ◌∷◌, ◌++◌, sym, ap, ap₂, ◌∙◌, subst}
+use Rattle.esa_device.specs.Recording.{Recorded}
 use Rattle.esa_params.specs.Sizes.{Sizes}
 use Rattle.esa_floor.specs.Parts.{Parts}
 use Rattle.esa_floor.specs.declared.floor.Roots.{Roots}
 use Rattle.esa_model.specs.Forecast.{made}
+use Rattle.esa_shuffle.specs.Records.{IsShuffledFrom}
 use Rattle.esa_shuffle.proofs.Ending.{ends_seen}
 use Rattle.esa_shuffle.proofs.Loaded.{given_where}
 use Rattle.esa_shuffle.proofs.runs.run_on.Goals as goal
@@ -23,10 +25,18 @@ returns-clause-ends g c =
 pub returns-clause-given : goal.returns-clause-given
 returns-clause-given g c =
     let p = g.G.Told.plan in
+    let ds = g.G.Told.draws in
+    let hs = made p ds c.args.turns.now in
     let done = c.load_and_run-outcome in
-    given_where p (g.R.Records.told c.args.batch.now) (g.R.Records.part (g.R.Records.grounds c.args.batch.now)) (g.R.Records.heard c.args.batch.now) (g.R.Records.heard done.new.batch)
-    (done.new.floor.history ≢ []) (c.give-recorder.result.history ≢ p.workers ∷ [])
-    (λ more none. more
-    (ap (λ x. x.history) c.give-recorder.ensures ∙ ap (λ (x : Parts _). x.history) c.end.ensures.ended
-    ∙ ap₂ (λ (h : List ℕ) (q : Sizes). h ++ q.workers ∷ []) none done.ensures.ends.stands.of.plan))
-    done.ensures.given
+    let recorder = ap (λ x. x.recorder) c.give-recorder.ensures ∙ ap (λ (x : Parts _). x.recorder) c.end.ensures.ended in
+    let has = done.ensures.given in
+    record {
+      given = has.given;
+      load = given_where p (g.R.Records.told c.args.batch.now) (g.R.Records.part (g.R.Records.grounds c.args.batch.now)) (g.R.Records.heard c.args.batch.now) (g.R.Records.heard done.new.batch)
+          (done.new.floor.history ≢ []) (c.give-recorder.result.history ≢ p.workers ∷ []) has.given
+          (λ more none. more
+          (ap (λ x. x.history) c.give-recorder.ensures ∙ ap (λ (x : Parts _). x.history) c.end.ensures.ended
+          ∙ ap₂ (λ (h : List ℕ) (q : Sizes). h ++ q.workers ∷ []) none done.ensures.ends.stands.of.plan))
+          has.load;
+      became = subst (λ (r : Recorded _). IsShuffledFrom p ds hs c.args.floor.outer c.args.floor.run r.log done.result has.given) (sym recorder) has.became;
+    }

@@ -6,6 +6,7 @@ use Rattle.esa_floor.specs.Parts.{Parts}
 use Rattle.esa_model.specs.Forecast.{made}
 use Rattle.esa_model.specs.Turns.{AreWorkers}
 use Rattle.esa_shuffle.specs.Loading.{HasGiven}
+use Rattle.esa_shuffle.specs.Records.{IsShuffledFrom}
 use Rattle.esa_shuffle.specs.Runs.{AreFresh, EndsRun, opens_last, seen_of}
 use Rattle.esa_shuffle.proofs.Ending.{fresh}
 use Rattle.esa_shuffle.proofs.Taking.{is_member}
@@ -49,5 +50,16 @@ returns-in-Ok-make-2-clause-fresh g c =
 
 pub returns-in-Ok-make-2-clause-given : goal.returns-in-Ok-make-2-clause-given
 returns-in-Ok-make-2-clause-given g c =
-    subst (λ (q : Sizes). HasGiven q (g.R.Records.told c.args.batch.now) (g.R.Records.part (g.R.Records.grounds c.args.batch.now)) (g.R.Records.heard c.args.batch.now)
-    (g.R.Records.heard c.run_on.new.batch) (c.run_on.result.history ≢ q.workers ∷ [])) c.requires.plan c.run_on.ensures.given
+    let parts = c.in-Ok-make-2.ensures.parts in
+    let ran = c.run_on.result in
+    let ds = g.G.Told.draws in
+    let turns = c.args.turns.now in
+    let told = g.R.Records.told c.args.batch.now in
+    let part = g.R.Records.part (g.R.Records.grounds c.args.batch.now) in
+    let before = g.R.Records.heard c.args.batch.now in
+    let after = g.R.Records.heard c.run_on.new.batch in
+    subst (λ (q : Sizes). HasGiven q told part before after (ran.history ≢ q.workers ∷ []) (IsShuffledFrom q ds (made q ds turns) c.args.outer c.args.run ran.recorder.log ran.outcome)) c.requires.plan
+    (subst (λ (k : Keys). HasGiven g.G.Told.plan told part before after (ran.history ≢ g.G.Told.plan.workers ∷ [])
+    (IsShuffledFrom g.G.Told.plan ds (made g.G.Told.plan ds turns) c.args.outer k ran.recorder.log ran.outcome)) (ap (λ (x : Parts _). x.run) parts)
+    (subst (λ (k : Keys). HasGiven g.G.Told.plan told part before after (ran.history ≢ g.G.Told.plan.workers ∷ [])
+    (IsShuffledFrom g.G.Told.plan ds (made g.G.Told.plan ds turns) k c.in-Ok-make-2.floor.run ran.recorder.log ran.outcome)) (ap (λ (x : Parts _). x.outer) parts) c.run_on.ensures.given))

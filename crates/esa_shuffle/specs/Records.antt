@@ -1,0 +1,28 @@
+-- What becomes of the records of a batch.
+use Rattle.std.specs.Prelude.{◌≡◌, ℕ, List, map}
+use Rattle.esa_device.specs.Logs.{Carried, IsFaithful}
+use Rattle.esa_ending.specs.Seen.{turns_in}
+use Rattle.esa_envelope.specs.declared.keys.Keys.{Keys}
+use Rattle.esa_floor.specs.Private.{item_opened}
+use Rattle.esa_floor.specs.declared.turn.Outcome.{Outcome}
+use Rattle.esa_floor.specs.declared.turn.Outcome.TheVariants as outcome
+use Rattle.esa_params.specs.Form.{envelope_length}
+use Rattle.esa_params.specs.Sizes.{Sizes, below}
+use Rattle.esa_press.specs.Contents.{AreOutputsStored}
+use Rattle.esa_report.specs.declared.item.Item.{Item}
+use Rattle.esa_spec.specs.Draws.{Draw}
+
+-- the record of each place, by the bytes that a batch gave: the item that the envelope of the place opens to
+abbrev pub record_at : Sizes → Keys → List ℕ → ℕ → Item
+record_at p outer given = item_opened outer (envelope_length p.form) given
+
+-- what a run with this outcome made of the bytes that its batch gave, where the log of its accesses is faithful and hs are the
+-- turns of its attempts
+pub record IsShuffledFrom (p : Sizes) (ds : ℕ → Draw) (hs : List (List ℕ)) (outer run : Keys) (log : List Carried) (o : Outcome) (given : List ℕ) : Type 0 where
+  -- the latest write of each block of the output took the seal of the records of its places, in order, in the attempt that
+  -- succeeded
+  pub output : (a : ℕ) → o ≡ outcome.Shuffled a → IsFaithful p log → AreOutputsStored p run (ds a) (turns_in hs a) a (record_at p outer given) p.b log
+
+-- the records of the batch, by the bytes that it gave
+abbrev pub records_given : Sizes → Keys → List ℕ → List Item
+records_given p outer given = map (record_at p outer given) (below p.n)
