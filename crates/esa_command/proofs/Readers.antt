@@ -1,5 +1,5 @@
 -- What is read of the bytes of a file.
-use Rattle.std.proofs.Common.{Global, Vec, ◌≡◌, ◌⊎◌, inl, inr, ℕ, ◌+◌, List, [], Some, Result, Ok, Err, ap, subst, sym, ◌∙◌, arith}
+use Rattle.std.proofs.Common.{Global, Vec, ◌≡◌, ◌⊎◌, inl, inr, ℕ, ◌+◌, List, [], Some, Result, Ok, Err, ap, sym, ◌∙◌, arith}
 use Rattle.std.specs.Prelude.{unwrap_or}
 use Rattle.esa_lists.specs.Files.{Files}
 use Rattle.esa_job.specs.declared.command.Command.{Command}
