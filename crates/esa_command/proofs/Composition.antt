@@ -11,8 +11,7 @@ use Rattle.esa_refusal.specs.Source.{place_of, is_same_source}
 use Rattle.esa_command.specs.Given.{Given, heard_of, all_heard, Agrees, AllAgree, AreInOrder}
 use Rattle.esa_command.specs.Judged.{IsMissing, StopsBy, AnswersBy, Judged}
 use Rattle.esa_command.specs.Stand.{Stand}
-use Rattle.esa_command.specs.Step.{Step, ◌>>=◌, accepted, refused, Reads, reads_of, without, file}
-use Rattle.esa_job.specs.declared.command.Command.{Command}
+use Rattle.esa_command.specs.Step.{Step, ◌>>=◌, accepted, refused, Reads, reads_of, without}
 
 heard-append : (some more : List Given) → all_heard (some ++ more) ≡ all_heard some ++ all_heard more
 heard-append [] more = refl
@@ -244,8 +243,3 @@ judged_already first last view steps before value order is = record {
   answers = λ read agree. (is read, refl);
   told = refl;
 }
-
--- the same file, by a name that is the same
-pub judged_file : {X : Type 0} (first last : ℕ) (view : X → List ℕ) (command : Command) (source : Source) (one two : List ℕ) (before now : Stand Files) (result : Result X Stop) → one ≡ two
-    → Judged first last view (file command source one) before now result → Judged first last view (file command source two) before now result
-judged_file first last view command source one two before now result is j = subst (λ name. Judged first last view (file command source name) before now result) is j
