@@ -5,4 +5,5 @@ pub mod Records
 pub mod Running
 pub mod Stopped
 pub mod Storing
+pub mod Taken
 pub mod Taking

@@ -49,6 +49,10 @@ module _ {V : Type 0} (faults : V → ℕ) (p : Sizes) (ds : ℕ → Draw) (f : 
       trace_is : r.trace ≡ map (written_input f.plan) (below k)
       trace_is = are.trace ∙ ap (λ (t : List Access). t ++ map (written_input f.plan) (below k)) new.trace
 
+      -- its log has the writes of the load alone
+      pub log_is : f.recorder.log ≡ [] → r.log ≡ entries
+      log_is none = are.log ∙ ap (λ (l : List Carried). l ++ entries) none
+
       length_is : length r.trace ≡ k
       length_is = ap length trace_is ∙ length-map (below k) (written_input f.plan) ∙ length-range_with_len 0 k
 

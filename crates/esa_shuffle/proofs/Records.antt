@@ -1,5 +1,5 @@
 -- What becomes of the records that a batch gave.
-use Rattle.std.proofs.Common.{◌≡◌, ℕ, ◌+◌, ◌*◌, ◌<◌, ◌≤◌, List, [], length, sym, ap, subst, arith, inl, inr, mul_comm}
+use Rattle.std.proofs.Common.{◌≡◌, ℕ, ◌+◌, ◌*◌, ◌<◌, ◌≤◌, List, [], ◌∷◌, ◌++◌, All, length, sym, ap, ◌∙◌, subst, arith, inl, inr, mul_comm}
 use Rattle.std.proofs.Math.Nat.{mul-le-mul_right}
 use Rattle.std.proofs.lemmas.Bool.{cases_lt}
 use Rattle.std.proofs.lemmas.List.{length-take, length-drop, nil_from_length}
@@ -14,25 +14,33 @@ use Rattle.esa_press.specs.Contents.{AreItems, AreOutputsStored}
 use Rattle.esa_report.specs.declared.item.Item.{Item}
 use Rattle.esa_spec.specs.Draws.{Draw}
 use Rattle.esa_spec.specs.Fronts.{Begins}
+use Rattle.esa_spec.specs.Histories.{lists}
 use Rattle.esa_envelope.specs.Envelope.{opened}
 use Rattle.esa_vault.specs.Items.{item_of}
 use Rattle.esa_vault.specs.Placed.{IsSpelled}
 use Rattle.esa_vault.proofs.NewItems.{held-item_of, spelled-item_of}
 use Rattle.esa_vault.proofs.TextLaws.{dummy_spelled}
 use Rattle.esa_floor.specs.Keeping.{HasInput}
+use Rattle.esa_floor.specs.Marks.{roots_of}
 use Rattle.esa_floor.specs.Parts.{Parts}
 use Rattle.esa_floor.specs.Private.{envelope_at}
+use Rattle.esa_floor.specs.Written.{EachTookItsBlock, IsOfInput}
+use Rattle.esa_floor.specs.declared.floor.Roots.{Roots}
 use Rattle.esa_floor.specs.declared.turn.Outcome.{Outcome}
 use Rattle.esa_floor.specs.declared.turn.Outcome.TheVariants as outcome
+use Rattle.esa_floor.proofs.Writing.{took-input}
 use Rattle.esa_shuffle.specs.Loading.{IsOfLoad, TakesInput}
-use Rattle.esa_shuffle.specs.Records.{IsShuffledFrom, record_at}
+use Rattle.esa_shuffle.specs.Records.{IsShuffledFrom, WritesOf, record_at}
 use Rattle.esa_shuffle.proofs.Contents.{faithful_before}
+use Rattle.esa_shuffle.proofs.Taken.{all_took, took_none}
 
--- a load that ended the run put no records out
-pub not_shuffled : (p : Sizes) (ds : ℕ → Draw) (hs : List (List ℕ)) (outer run : Keys) (log : List Carried) (o : Outcome) (given : List ℕ) → IsOfLoad o
-    → IsShuffledFrom p ds hs outer run log o given
-not_shuffled p ds hs outer run log o given of_load = record {
+-- a load that ended the run put no records out, and what it wrote is the input
+pub not_shuffled : (p : Sizes) (ds : ℕ → Draw) (hs : List (List ℕ)) (outer run : Keys) (history : List ℕ) (log : List Carried) (o : Outcome) (given : List ℕ) → IsOfLoad o
+    → All (IsOfInput p) log → WritesOf o log → IsShuffledFrom p ds hs outer run history log o given
+not_shuffled p ds hs outer run history log o given of_load all failed = record {
   output = λ a same faithful. absurd (subst IsOfLoad same of_load);
+  took = λ faithful. took_none p run ds (record_at p outer given) (turns_in (lists p.workers history)) log all;
+  failed = failed;
 }
 
 -- the envelope of a place, where bytes were given for it
@@ -76,17 +84,31 @@ are_items p outer n given long = record {
   spelled = λ x. spelled-at outer p.form n x given long;
 }
 
--- the floor x was loaded, and the attempts that were made of it put the records of its input out
-pub shuffled_from : {V : Type 0} (p : Sizes) (ds : ℕ → Draw) (hs : List (List ℕ)) (f x : Parts V) (log : List Carried) (o : Outcome) (given : List ℕ)
-    → x.plan ≡ p → x.outer ≡ f.outer → x.run ≡ f.run → length given ≡ envelope_length p.form * first p p.b → Begins x.recorder.log log
-    → ((record_of : ℕ → Item) (a : ℕ) → AreItems (item_length p.form) record_of → IsFaithful p log → HasInput x record_of → o ≡ outcome.Shuffled a
-    → AreOutputsStored p x.run (ds a) (turns_in hs a) a record_of p.b log)
-    → TakesInput x given → IsShuffledFrom p ds hs f.outer f.run log o given
-shuffled_from {V} p ds hs f x log o given plan outer run long on outputs input = record {
-  output = λ a same faithful.
-      let before : IsFaithful x.plan x.recorder.log = subst (λ (q : Sizes). IsFaithful q x.recorder.log) (sym plan) (faithful_before p x.recorder.log log on faithful) in
-      let has : HasInput x (record_at p f.outer given) =
-      subst (λ (k : Keys). HasInput x (record_at p k given)) outer (subst (λ (q : Sizes). HasInput x (record_at q x.outer given)) plan (input before)) in
-      subst (λ (k : Keys). AreOutputsStored p k (ds a) (turns_in hs a) a (record_at p f.outer given) p.b log) run
-      (outputs (record_at p f.outer given) a (are_items p f.outer (first p p.b) given long) faithful has same);
-}
+-- the floor x was loaded, and the attempts that were made of it left the floor f, and put the records of its input out
+module _ {V : Type 0} (p : Sizes) (ds : ℕ → Draw) (hs : List (List ℕ)) (outer run : Keys) (x f : Parts V) (o : Outcome) (given : List ℕ)
+    (plan : x.plan ≡ p) (outer_is : x.outer ≡ outer) (run_is : x.run ≡ run) (origin : roots_of f ≡ roots_of x) (long : length given ≡ envelope_length p.form * first p p.b)
+    (on : Begins x.recorder.log f.recorder.log) (input : TakesInput x given)
+  where
+    items : AreItems (item_length p.form) (record_at p outer given)
+    items = are_items p outer (first p p.b) given long
+
+    has_input : IsFaithful p f.recorder.log → HasInput x (record_at p outer given)
+    has_input faithful =
+        let before : IsFaithful x.plan x.recorder.log = subst (λ (q : Sizes). IsFaithful q x.recorder.log) (sym plan) (faithful_before p x.recorder.log f.recorder.log on faithful) in
+        subst (λ (k : Keys). HasInput x (record_at p k given)) outer_is (subst (λ (q : Sizes). HasInput x (record_at q x.outer given)) plan (input before))
+
+    pub shuffled_from : ((record_of : ℕ → Item) (a : ℕ) → AreItems (item_length p.form) record_of → IsFaithful p f.recorder.log → HasInput x record_of → o ≡ outcome.Shuffled a
+        → AreOutputsStored p x.run (ds a) (turns_in hs a) a record_of p.b f.recorder.log)
+        → ((record_of : ℕ → Item) → IsFaithful p f.recorder.log → HasInput x record_of → HasInput f record_of)
+        → ((record_of : ℕ → Item) → AreItems (item_length p.form) record_of → EachTookItsBlock ds record_of x → EachTookItsBlock ds record_of f)
+        → All (IsOfInput x.plan) x.recorder.log → WritesOf o f.recorder.log
+        → IsShuffledFrom p ds hs outer run (f.history ++ p.workers ∷ []) f.recorder.log o given
+    shuffled_from outputs stays takes all failed = record {
+      output = λ a same faithful.
+          subst (λ (k : Keys). AreOutputsStored p k (ds a) (turns_in hs a) a (record_at p outer given) p.b f.recorder.log) run_is
+          (outputs (record_at p outer given) a items faithful (has_input faithful) same);
+      took = λ faithful.
+          all_took ds (record_at p outer given) f o p run (ap (λ (r : Roots). r.plan) origin ∙ plan) (ap (λ (r : Roots). r.run) origin ∙ run_is)
+          (takes (record_at p outer given) items (took-input ds (record_at p outer given) x all)) (stays (record_at p outer given) faithful (has_input faithful));
+      failed = failed;
+    }

@@ -1,5 +1,6 @@
 -- How an attempt of a run ends, and what it adds to the history.
 use Rattle.std.specs.Prelude.{◌≡◌, ℕ, List, [], ◌∷◌, ◌++◌, take, true, Result, Ok, Err, OnOk}
+use Rattle.esa_device.specs.Logs.{Carried}
 use Rattle.esa_params.specs.Sizes.{Sizes}
 use Rattle.esa_spec.specs.Draws.{Draw}
 use Rattle.esa_spec.specs.Verdicts.{is_finished, verdict}
@@ -9,6 +10,7 @@ use Rattle.esa_vault.specs.declared.fault.VaultFault.TheVariants as fault
 use Rattle.esa_floor.specs.Ends.{IsOver}
 use Rattle.esa_floor.specs.Parts.{Parts, ended_as}
 use Rattle.esa_floor.specs.Standing.{Stands, turns_made}
+use Rattle.esa_floor.specs.Written.{NoWriteFailed, OnlyLastFailed}
 use Rattle.esa_floor.specs.declared.turn.Outcome.{Outcome}
 use Rattle.esa_floor.specs.declared.turn.Outcome.TheVariants as outcome
 use Rattle.esa_press.specs.declared.halt.Halt.{Halt}
@@ -29,6 +31,12 @@ abbrev pub AttemptEnd : {V : Type 0} → (V → ℕ) → Sizes → (ℕ → Draw
 AttemptEnd faults p ds a f (Ok v) =
     IsOver faults p ds f a × (is_finished f.plan (ds a) (turns_made f) ≡ true) × (verdict f.plan (ds a) (turns_made f) ≡ v)
 AttemptEnd faults p ds a f (Err fault) = Stands faults p ds (ended_as f (outcome_of fault))
+
+-- which writes failed by the end of an attempt, where none failed before: none, or the last access alone
+abbrev pub WritesEnd : Result Verdict VaultFault → List Carried → Type 0
+WritesEnd (Ok v) log = NoWriteFailed log
+WritesEnd (Err (fault.Device number)) log = OnlyLastFailed log
+WritesEnd (Err (fault.Tampered number)) log = NoWriteFailed log
 
 -- an attempt added the owner's entry to the history, and the first of these turns: all of them, where it is over
 pub record AddsAttempt (p : Sizes) (h old new : List ℕ) (result : Result Verdict VaultFault) : Type 0 where

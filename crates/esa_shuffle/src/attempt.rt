@@ -7,12 +7,13 @@ ghost use Rattle.esa_floor.specs.Keeping.{HasInput};
 ghost use Rattle.esa_floor.specs.Marks.{roots_of};
 ghost use Rattle.esa_floor.specs.Parts.{begun_as};
 ghost use Rattle.esa_floor.specs.Standing.{Stands};
+ghost use Rattle.esa_floor.specs.Written.{EachTookItsBlock, NoWriteFailed};
 ghost use Rattle.esa_params.specs.Slots.{item_length};
 ghost use Rattle.esa_press.specs.Contents.{AreItems, AreOrders, AreOutputsStored};
 ghost use Rattle.esa_report.specs.declared.item.Item.{Item};
 ghost use Rattle.esa_spec.specs.Completion.{completed, full};
 ghost use Rattle.esa_spec.specs.Fronts.{Begins};
-ghost use Rattle.esa_shuffle.specs.Attempts.{AddsAttempt, AttemptEnd};
+ghost use Rattle.esa_shuffle.specs.Attempts.{AddsAttempt, AttemptEnd, WritesEnd};
 
 use crate::rest::finish;
 use esa_crew::{begin, replay};
@@ -60,6 +61,9 @@ pub(crate) fn make_attempt<V: Device, G: Told, C: Coins>(
     ensures outputs { (record_of : ℕ → Item) → AreItems (item_length floor.old.plan.form) record_of → IsFaithful floor.old.plan floor.new.recorder.log
         → HasInput floor.old record_of → result ≡ Ok Verdict.Good
         → AreOutputsStored floor.old.plan floor.old.run (G.draws attempt) (full floor.old.plan (G.draws attempt) turns.now) attempt record_of floor.old.plan.b floor.new.recorder.log }
+    ensures took { (record_of : ℕ → Item) → AreItems (item_length floor.old.plan.form) record_of
+        → EachTookItsBlock G.draws record_of floor.old → EachTookItsBlock G.draws record_of floor.new }
+    ensures writes { NoWriteFailed floor.old.recorder.log → WritesEnd result floor.new.recorder.log }
     ensures origin { roots_of floor.new ≡ roots_of floor.old }
     ensures outcome { floor.new.outcome ≡ None }
     ensures members { AreMembers G.draws C.target_list floor.new workers.new }

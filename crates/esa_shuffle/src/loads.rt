@@ -1,8 +1,9 @@
 //! The load of a run.
 
-ghost use Rattle.std.specs.Prelude.{◌≡◌, IsOk, OnOk};
+ghost use Rattle.std.specs.Prelude.{◌≡◌, All, IsOk, OnOk, []};
+ghost use Rattle.esa_floor.specs.Written.{IsOfInput};
 ghost use Rattle.esa_params.specs.Form.{envelope_length};
-ghost use Rattle.esa_shuffle.specs.Loading.{EndsLoad, HasGiven, IsNewFloor, TakesInput};
+ghost use Rattle.esa_shuffle.specs.Loading.{EndsLoad, HasGiven, IsNewFloor, TakesInput, WritesLoaded};
 
 use esa_crew::loaded_floors_begin;
 use esa_device::Device;
@@ -17,6 +18,7 @@ pub(crate) fn load<V: Device, G: Told, R: Records>(
     batch: &mut R,
 ) -> Result<(), Outcome>
     requires new { IsNewFloor V.faults G.plan G.draws floor.old }
+    requires log { floor.old.recorder.log ≡ [] }
     requires plan { loader.old.plan ≡ floor.old.plan }
     requires run { loader.old.run ≡ floor.old.run }
     requires count { R.count batch.old ≡ floor.old.plan.n }
@@ -24,6 +26,8 @@ pub(crate) fn load<V: Device, G: Told, R: Records>(
     ensures ends { EndsLoad V.faults G.plan G.draws floor.new (R.faults batch.old) (R.faults batch.new) result }
     ensures given { HasGiven floor.old.plan (R.told batch.old) (R.part (R.grounds batch.old)) (R.heard batch.old) (R.heard batch.new) (IsOk result)
         (λ bytes. OnOk result (TakesInput floor.new bytes)) }
+    ensures input { All (IsOfInput floor.new.plan) floor.new.recorder.log }
+    ensures writes { WritesLoaded result floor.new.recorder.log }
     ensures floor { floor.new ≡ record floor.old { recorder = floor.new.recorder } }
     ensures told { R.told batch.new ≡ R.told batch.old }
     ensures grounds { R.grounds batch.new ≡ R.grounds batch.old }

@@ -4,12 +4,13 @@ ghost use Rattle.std.specs.Prelude.{◌≡◌, ℕ, ◌*◌, ◌<◌, None, Ok, 
 ghost use Rattle.esa_device.specs.Logs.{IsFaithful};
 ghost use Rattle.esa_floor.specs.Keeping.{HasInput, QueuesHold, SlotsHold};
 ghost use Rattle.esa_floor.specs.Standing.{Stands, turns_made};
+ghost use Rattle.esa_floor.specs.Written.{EachTookItsBlock, NoWriteFailed, WritesFailed};
 ghost use Rattle.esa_params.specs.Slots.{item_length};
 ghost use Rattle.esa_press.specs.Contents.{AreItems, AreOrders, AreOutputsStored};
 ghost use Rattle.esa_press.specs.Over.{IsDistributed};
 ghost use Rattle.esa_report.specs.declared.item.Item.{Item};
 ghost use Rattle.esa_spec.specs.Fronts.{Begins};
-ghost use Rattle.esa_shuffle.specs.Attempts.{AttemptEnd, end_of};
+ghost use Rattle.esa_shuffle.specs.Attempts.{AttemptEnd, WritesEnd, end_of};
 
 use esa_device::Device;
 use esa_floor::{Floor, Stop, Told};
@@ -49,6 +50,9 @@ fn press_on<V: Device, G: Told, C: Coins>(
     ensures outputs { (record_of : ℕ → Item) → AreItems (item_length floor.old.plan.form) record_of → QueuesHold G.draws floor.old → SlotsHold G.draws floor.old
         → IsFaithful floor.old.plan floor.new.recorder.log → HasInput floor.old record_of → result ≡ Ok Verdict.Good
         → AreOutputsStored floor.old.plan floor.old.run (G.draws attempt) (turns_made floor.old) attempt record_of floor.old.plan.b floor.new.recorder.log }
+    ensures took { (record_of : ℕ → Item) → AreItems (item_length floor.old.plan.form) record_of → QueuesHold G.draws floor.old → SlotsHold G.draws floor.old
+        → EachTookItsBlock G.draws record_of floor.old → EachTookItsBlock G.draws record_of floor.new }
+    ensures writes { NoWriteFailed floor.old.recorder.log → WritesEnd result floor.new.recorder.log }
     ensures plan { press.new.plan ≡ press.old.plan }
     ensures run { press.new.run ≡ press.old.run }
 {
@@ -87,6 +91,9 @@ pub(crate) fn finish<V: Device, G: Told, C: Coins>(
     ensures outputs { (record_of : ℕ → Item) → AreItems (item_length floor.old.plan.form) record_of → QueuesHold G.draws floor.old → SlotsHold G.draws floor.old
         → IsFaithful floor.old.plan floor.new.recorder.log → HasInput floor.old record_of → result ≡ Ok Verdict.Good
         → AreOutputsStored floor.old.plan floor.old.run (G.draws attempt) (turns_made floor.old) attempt record_of floor.old.plan.b floor.new.recorder.log }
+    ensures took { (record_of : ℕ → Item) → AreItems (item_length floor.old.plan.form) record_of → QueuesHold G.draws floor.old → SlotsHold G.draws floor.old
+        → EachTookItsBlock G.draws record_of floor.old → EachTookItsBlock G.draws record_of floor.new }
+    ensures writes { WritesFailed floor.old.stop floor.old.recorder.log → WritesEnd result floor.new.recorder.log }
     ensures plan { press.new.plan ≡ press.old.plan }
     ensures run { press.new.run ≡ press.old.run }
 {

@@ -1,6 +1,6 @@
 //! The attempts of a run, one after another, and its end.
 
-ghost use Rattle.std.specs.Prelude.{◌≡◌, ◌≢◌, ◌∷◌, ◌+◌, ◌<◌, ◌≤◌, ℕ, [], Some, length};
+ghost use Rattle.std.specs.Prelude.{◌≡◌, ◌≢◌, ◌∷◌, ◌++◌, ◌+◌, ◌<◌, ◌≤◌, ℕ, [], Some, length};
 ghost use Rattle.esa_crew.specs.Posts.{AreMembers};
 ghost use Rattle.esa_device.specs.Logs.{IsFaithful};
 ghost use Rattle.esa_ending.specs.Seen.{turns_in};
@@ -8,6 +8,7 @@ ghost use Rattle.esa_floor.specs.Keeping.{HasInput};
 ghost use Rattle.esa_floor.specs.Marks.{roots_of};
 ghost use Rattle.esa_floor.specs.Parts.{begun_as};
 ghost use Rattle.esa_floor.specs.Standing.{Stands};
+ghost use Rattle.esa_floor.specs.Written.{EachTookItsBlock, NoWriteFailed};
 ghost use Rattle.esa_model.specs.Forecast.{made};
 ghost use Rattle.esa_model.specs.Turns.{AreWorkers};
 ghost use Rattle.esa_params.specs.Form.{envelope_length};
@@ -20,7 +21,7 @@ ghost use Rattle.esa_spec.specs.Fronts.{Begins};
 ghost use Rattle.esa_spec.specs.Verdicts as verdicts;
 ghost use Rattle.esa_shuffle.specs.Attempts.{outcome_of};
 ghost use Rattle.esa_shuffle.specs.Loading.{HasGiven, IsNewFloor};
-ghost use Rattle.esa_shuffle.specs.Records.{IsShuffledFrom};
+ghost use Rattle.esa_shuffle.specs.Records.{IsShuffledFrom, WritesOf};
 ghost use Rattle.esa_shuffle.specs.Runs.{EndsRun, MayEnd, entries_before, opens_last, seen_of};
 
 use crate::attempt::make_attempt;
@@ -98,6 +99,12 @@ fn make_attempts<V: Device, G: Told, C: Coins>(
     ensures outputs { (record_of : ℕ → Item) (a : ℕ) → AreItems (item_length G.plan.form) record_of → IsFaithful G.plan floor.new.recorder.log
         → HasInput floor.old record_of → result ≡ Outcome.Shuffled a
         → AreOutputsStored G.plan floor.old.run (G.draws a) (turns_in (made G.plan G.draws turns.now) a) a record_of G.plan.b floor.new.recorder.log }
+    ensures input { (record_of : ℕ → Item) → IsFaithful G.plan floor.new.recorder.log → HasInput floor.old record_of → HasInput floor.new record_of }
+
+    // However the attempts ended, each write took its block, and none failed but the last.
+    ensures took { (record_of : ℕ → Item) → AreItems (item_length G.plan.form) record_of
+        → EachTookItsBlock G.draws record_of floor.old → EachTookItsBlock G.draws record_of floor.new }
+    ensures writes { NoWriteFailed floor.old.recorder.log → WritesOf result floor.new.recorder.log }
     ensures origin { roots_of floor.new ≡ roots_of floor.old }
 {
     for attempt in 0..floor.plan().attempts() {
@@ -124,6 +131,7 @@ fn load_and_run<V: Device, G: Told, C: Coins, R: Records>(
     turns: &Turns,
 ) -> Outcome
     requires new { IsNewFloor V.faults G.plan G.draws floor.old }
+    requires log { floor.old.recorder.log ≡ [] }
     requires room { entries_before G.plan turns.now G.plan.attempts < floor.old.room }
     requires failures { failures.old ≡ [] }
     requires members { AreMembers G.draws C.target_list floor.old tools.old.workers.items }
@@ -139,7 +147,7 @@ fn load_and_run<V: Device, G: Told, C: Coins, R: Records>(
     requires size { R.size batch.old ≡ envelope_length G.plan.form }
     ensures ends { MayEnd V.faults G.plan G.draws (made G.plan G.draws turns.now) (R.faults batch.old) (R.faults batch.new) floor.new failures.new result }
     ensures given { HasGiven G.plan (R.told batch.old) (R.part (R.grounds batch.old)) (R.heard batch.old) (R.heard batch.new) (floor.new.history ≢ [])
-        (IsShuffledFrom G.plan G.draws (made G.plan G.draws turns.now) floor.old.outer floor.old.run floor.new.recorder.log result) }
+        (IsShuffledFrom G.plan G.draws (made G.plan G.draws turns.now) floor.old.outer floor.old.run (floor.new.history ++ G.plan.workers ∷ []) floor.new.recorder.log result) }
     ensures origin { roots_of floor.new ≡ roots_of floor.old }
     ensures told { R.told batch.new ≡ R.told batch.old }
     ensures grounds { R.grounds batch.new ≡ R.grounds batch.old }
@@ -169,6 +177,7 @@ pub(crate) fn run_on<V: Device, G: Told, C: Coins, R: Records>(
     turns: &Turns,
 ) -> Ran<V>
     requires new { IsNewFloor V.faults G.plan G.draws floor }
+    requires log { floor.recorder.log ≡ [] }
     requires room { entries_before G.plan turns.now G.plan.attempts < floor.room }
     requires failures { failures ≡ [] }
     requires members { AreMembers G.draws C.target_list floor tools.old.workers.items }
@@ -185,7 +194,7 @@ pub(crate) fn run_on<V: Device, G: Told, C: Coins, R: Records>(
     ensures ends { EndsRun G.plan G.draws (made G.plan G.draws turns.now) (seen_of V.faults floor.faults (R.faults batch.old) result.recorder result.history (R.faults batch.new))
         (opens_last G.plan floor.run result.recorder.last) result.failures result.outcome }
     ensures given { HasGiven G.plan (R.told batch.old) (R.part (R.grounds batch.old)) (R.heard batch.old) (R.heard batch.new) (result.history ≢ G.plan.workers ∷ [])
-        (IsShuffledFrom G.plan G.draws (made G.plan G.draws turns.now) floor.outer floor.run result.recorder.log result.outcome) }
+        (IsShuffledFrom G.plan G.draws (made G.plan G.draws turns.now) floor.outer floor.run result.history result.recorder.log result.outcome) }
     ensures ready { result.recorder.plan ≡ Some G.plan }
     ensures room { greatest_trace G.plan ≤ length result.recorder.trace + result.recorder.room }
     ensures told { R.told batch.new ≡ R.told batch.old }

@@ -75,7 +75,7 @@ fn run_told<G: Told, V: Device, C: Coins, R: Records>(
     ensures ends { IfOk result (λ ran. EndsRun plan G.draws (made plan G.draws turns.now) (seen_of V.faults (V.faults recorder.device) (R.faults batch.old) ran.recorder ran.history (R.faults batch.new))
         (opens_last plan run ran.recorder.last) ran.failures ran.outcome) }
     ensures given { IfOk result (λ ran. HasGiven plan (R.told batch.old) (R.part (R.grounds batch.old)) (R.heard batch.old) (R.heard batch.new) (ran.history ≢ plan.workers ∷ [])
-        (IsShuffledFrom plan G.draws (made plan G.draws turns.now) outer run ran.recorder.log ran.outcome)) }
+        (IsShuffledFrom plan G.draws (made plan G.draws turns.now) outer run ran.history ran.recorder.log ran.outcome)) }
     ensures fresh { IfOk result (λ ran. AreFresh plan ran.recorder.trace) }
     ensures ready { IfOk result (λ ran. ran.recorder.plan ≡ Some plan) }
     ensures room { IfOk result (λ ran. greatest_trace plan ≤ length ran.recorder.trace + ran.recorder.room) }
@@ -86,6 +86,7 @@ fn run_told<G: Told, V: Device, C: Coins, R: Records>(
     ensures given_back { IfErr result (λ none. none.recorder ≡ recorder) }
     ensures untouched { IfErr result (λ none. batch.new ≡ batch.old) }
 {
+    recorder.keeps_its_log();
     let entries = most_entries(&plan, turns);
     let Ok(mut tools) = Tools::make(alloc, coins, plan, outer, run) else {
         return Err(NoRun { recorder });
@@ -129,10 +130,11 @@ pub fn run_turns<V: Device, C: Coins, R: Records>(
         (opens_last plan run ran.recorder.last) ran.failures ran.outcome) }
 
     // What the load has read are the records of the batch: of all its buckets, where an attempt was begun. Where the log of the
-    // run is faithful, these are the records that the attempt which succeeded put out, each at its place.
+    // run is faithful, these are the records that the attempt which succeeded put out, each at its place, and however the run
+    // ended they are what each block that was written has.
     ensures given { IfOk result (λ ran. let ds = drawn (C.target_list coins.now) (C.order_list coins.now) in
         HasGiven plan (R.told batch.old) (R.part (R.grounds batch.old)) (R.heard batch.old) (R.heard batch.new) (ran.history ≢ plan.workers ∷ [])
-        (IsShuffledFrom plan ds (made plan ds turns.now) outer run ran.recorder.log ran.outcome)) }
+        (IsShuffledFrom plan ds (made plan ds turns.now) outer run ran.history ran.recorder.log ran.outcome)) }
 
     // No write repeats a nonce.
     ensures fresh { IfOk result (λ ran. AreFresh plan ran.recorder.trace) }

@@ -12,6 +12,7 @@ use Rattle.esa_crew.specs.Posts.{ArePosts}
 use Rattle.esa_floor.specs.Keeping.{HasInput, QueuesHold, SlotsHold}
 use Rattle.esa_floor.specs.Parts.{Parts, begun_as}
 use Rattle.esa_floor.specs.Standing.{attempt_begun, turns_made}
+use Rattle.esa_floor.specs.Written.{EachTookItsBlock, WritesFailed}
 use Rattle.esa_floor.specs.declared.floor.Roots.{Roots}
 use Rattle.esa_press.specs.Contents.{AreItems, AreOutputsStored}
 use Rattle.esa_shuffle.proofs.Contents.{faithful_before, input_stays}
@@ -87,3 +88,21 @@ returns-clause-outputs g c = λ record_of items faithful input good.
     (subst (λ (x : Parts _). SlotsHold ds x) (sym c.keep_log-2.ensures.same) (c.replay.ensures.slots c.begin.ensures.hold c.begin.ensures.queues c.begin.ensures.slots))
     (subst (λ (q : Sizes). IsFaithful q last.recorder.log) (sym same_plan) faithful)
     (subst (λ (x : Parts _). HasInput x record_of) (sym c.keep_log-2.ensures.same) stays) good)))
+
+pub returns-clause-took : goal.returns-clause-took
+returns-clause-took g c = λ record_of items took.
+    let ds = g.G.Told.draws in
+    let a = c.args.attempt in
+    let is = c.begin.ensures.begun ∙ ap (λ (x : Parts _). begun_as x a) c.keep_log.ensures.same in
+    let same_plan = ap (λ (x : Parts _). x.plan) c.keep_log-2.ensures.same ∙ ap (λ (r : Roots). r.plan) c.replay.ensures.origin ∙ ap (λ (x : Parts _). x.plan) is in
+    let begun = c.begin.ensures.took record_of (subst (λ (x : Parts _). EachTookItsBlock ds record_of x) (sym c.keep_log.ensures.same) took) in
+    c.finish.ensures.took record_of (subst (λ (q : Sizes). AreItems (item_length q.form) record_of) (sym same_plan) items)
+    (subst (λ (x : Parts _). QueuesHold ds x) (sym c.keep_log-2.ensures.same) (c.replay.ensures.queues c.begin.ensures.hold c.begin.ensures.queues))
+    (subst (λ (x : Parts _). SlotsHold ds x) (sym c.keep_log-2.ensures.same) (c.replay.ensures.slots c.begin.ensures.hold c.begin.ensures.queues c.begin.ensures.slots))
+    (subst (λ (x : Parts _). EachTookItsBlock ds record_of x) (sym c.keep_log-2.ensures.same) (c.replay.ensures.took record_of c.begin.ensures.hold c.begin.ensures.queues begun))
+
+pub returns-clause-writes : goal.returns-clause-writes
+returns-clause-writes g c = λ none.
+    let is = c.begin.ensures.begun ∙ ap (λ (x : Parts _). begun_as x c.args.attempt) c.keep_log.ensures.same in
+    c.finish.ensures.writes (subst (λ (x : Parts _). WritesFailed x.stop x.recorder.log) (sym c.keep_log-2.ensures.same)
+    (c.replay.ensures.writes (subst (λ (x : Parts _). WritesFailed x.stop x.recorder.log) (sym is) none)))

@@ -6,9 +6,10 @@ use Rattle.esa_floor.specs.Parts.{Parts}
 use Rattle.esa_floor.specs.Standing.{turns_made}
 use Rattle.esa_spec.specs.Turns.{order}
 use Rattle.esa_ending.proofs.FrontLaws.{onward}
-use Rattle.esa_shuffle.specs.Attempts.{AttemptEnd}
+use Rattle.esa_shuffle.specs.Attempts.{AttemptEnd, WritesEnd}
 use Rattle.esa_press.proofs.Finishing.{chunks_are, queues_are, room_is}
 use Rattle.esa_shuffle.proofs.Contents.{drain_bad, drained_log, faithful_before, outputs_on, press_bad, pressed_log}
+use Rattle.esa_shuffle.proofs.Taken.{rest_writes, took_drained, took_pressed}
 use Rattle.esa_shuffle.proofs.Stopped.{drain_ends, press_done, press_ends}
 use Rattle.esa_shuffle.proofs.rest.press_on.Goals as goal
 
@@ -95,3 +96,34 @@ pub returns-in-Err-compress-clause-outputs : goal.returns-in-Err-compress-clause
 returns-in-Err-compress-clause-outputs g c = λ record_of items queues slots faithful input good.
     absurd (press_bad g.V.Device.faults c.drain.new.floor (g.G.Told.draws c.args.attempt) c.args.attempt c.compress.new.floor.recorder c.in-Err-compress.halt c.in-Err-compress.ensures.made
     (sym c.end_by-in-Err-compress.ensures ∙ good))
+
+pub returns-in-Err-clause-took : goal.returns-in-Err-clause-took
+returns-in-Err-clause-took g c = λ record_of items queues slots.
+    took_drained g.V.Device.faults g.G.Told.plan g.G.Told.draws c.args.floor.now c.drain.new.floor c.args.attempt c.requires.distributed record_of
+    (Err c.in-Err.halt) c.in-Err.ensures.ends queues (c.in-Err.ensures.took record_of)
+
+pub returns-in-Ok-clause-took : goal.returns-in-Ok-clause-took
+returns-in-Ok-clause-took g c = λ record_of items queues slots.
+    took_pressed g.V.Device.faults g.G.Told.plan g.G.Told.draws c.args.floor.now c.drain.new.floor c.args.attempt c.requires.distributed record_of
+    c.in_default.field-0 c.in_default.ensures.ends items queues slots (g.C.Coins.order_list c.args.coins.now c.args.attempt) c.requires.orders
+    (c.in_default.ensures.tails record_of) (c.in_default.ensures.chunks record_of) (c.in_default.ensures.took record_of)
+    c.compress.new.floor c.compress.ensures.floor c.compress.ensures.log (c.compress.ensures.took record_of)
+
+pub returns-in-Err-compress-clause-took : goal.returns-in-Err-compress-clause-took
+returns-in-Err-compress-clause-took g c = λ record_of items queues slots.
+    took_pressed g.V.Device.faults g.G.Told.plan g.G.Told.draws c.args.floor.now c.drain.new.floor c.args.attempt c.requires.distributed record_of
+    c.in_default.field-0 c.in_default.ensures.ends items queues slots (g.C.Coins.order_list c.args.coins.now c.args.attempt) c.requires.orders
+    (c.in_default.ensures.tails record_of) (c.in_default.ensures.chunks record_of) (c.in_default.ensures.took record_of)
+    c.compress.new.floor c.compress.ensures.floor c.compress.ensures.log (c.compress.ensures.took record_of)
+
+pub returns-in-Err-clause-writes : goal.returns-in-Err-clause-writes
+returns-in-Err-clause-writes g c = λ none.
+    subst (λ result. WritesEnd result c.drain.new.floor.recorder.log) (sym c.end_by.ensures) (rest_writes c.in-Err.halt c.drain.new.floor.recorder.log (c.in-Err.ensures.writes none))
+
+pub returns-in-Ok-clause-writes : goal.returns-in-Ok-clause-writes
+returns-in-Ok-clause-writes g c = λ none. c.in-Ok.ensures.writes (c.in_default.ensures.writes none)
+
+pub returns-in-Err-compress-clause-writes : goal.returns-in-Err-compress-clause-writes
+returns-in-Err-compress-clause-writes g c = λ none.
+    subst (λ result. WritesEnd result c.compress.new.floor.recorder.log) (sym c.end_by-in-Err-compress.ensures)
+    (rest_writes c.in-Err-compress.halt c.compress.new.floor.recorder.log (c.in-Err-compress.ensures.writes (c.in_default.ensures.writes none)))

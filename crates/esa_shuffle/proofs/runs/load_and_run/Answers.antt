@@ -1,8 +1,9 @@
 -- The attempts end the run after the load, or the load does.
-use Rattle.std.proofs.Common.{◌≡◌, ◌≢◌, true, false, ℕ, ◌*◌, List, [], refl, sym, ap, ◌∙◌, subst}
+use Rattle.std.proofs.Common.{◌≡◌, ◌≢◌, true, false, ℕ, ◌*◌, [], ◌∷◌, ◌++◌, All, refl, sym, ap, ◌∙◌, subst}
 use Rattle.esa_params.specs.Form.{envelope_length}
 use Rattle.esa_params.specs.Sizes.{Sizes, first}
 use Rattle.esa_floor.specs.Parts.{Parts}
+use Rattle.esa_floor.specs.Written.{IsOfInput}
 use Rattle.esa_model.specs.Forecast.{made}
 use Rattle.esa_shuffle.specs.Loading.{HasGiven, TakesInput}
 use Rattle.esa_shuffle.specs.Runs.{MayEnd}
@@ -32,9 +33,10 @@ returns-in-Ok-clause-given g c =
     record {
       given = has.given;
       load = given_where p told part before after (true ≡ true) (last.history ≢ []) has.given (λ _. refl) has.load;
-      became = shuffled_from p ds hs f c.load.new.floor last.recorder.log o has.given (ap (λ (x : Parts _). x.plan) c.load.ensures.floor ∙ c.requires.new.stands.of.plan)
-          (ap (λ (x : Parts _). x.outer) c.load.ensures.floor) (ap (λ (x : Parts _). x.run) c.load.ensures.floor)
-          (has.load.bytes ∙ ap (λ (n : ℕ). envelope_length p.form * first p n) (has.load.whole refl)) c.make_attempts.ensures.log c.make_attempts.ensures.outputs has.became;
+      became = shuffled_from p ds hs f.outer f.run c.load.new.floor last o has.given (ap (λ (x : Parts _). x.plan) c.load.ensures.floor ∙ c.requires.new.stands.of.plan)
+          (ap (λ (x : Parts _). x.outer) c.load.ensures.floor) (ap (λ (x : Parts _). x.run) c.load.ensures.floor) c.make_attempts.ensures.origin
+          (has.load.bytes ∙ ap (λ (n : ℕ). envelope_length p.form * first p n) (has.load.whole refl)) c.make_attempts.ensures.log has.became
+          c.make_attempts.ensures.outputs c.make_attempts.ensures.input c.make_attempts.ensures.took c.load.ensures.input (c.make_attempts.ensures.writes c.in-Ok.ensures.writes);
     }
 
 pub returns-in-Err-clause-given : goal.returns-in-Err-clause-given
@@ -51,5 +53,6 @@ returns-in-Err-clause-given g c =
       given = has.given;
       load = given_where p told part before after (false ≡ true) (c.load.new.floor.history ≢ []) has.given
           (λ some. absurd (some (ap (λ (x : Parts _). x.history) c.load.ensures.floor ∙ c.requires.new.history))) has.load;
-      became = not_shuffled p ds (made p ds c.args.turns.now) f.outer f.run c.load.new.floor.recorder.log c.in-Err.outcome has.given c.in-Err.ensures.ends.2;
+      became = not_shuffled p ds (made p ds c.args.turns.now) f.outer f.run (c.load.new.floor.history ++ p.workers ∷ []) c.load.new.floor.recorder.log c.in-Err.outcome has.given c.in-Err.ensures.ends.2
+          (subst (λ (q : Sizes). All (IsOfInput q) c.load.new.floor.recorder.log) (ap (λ (x : Parts _). x.plan) c.load.ensures.floor ∙ c.requires.new.stands.of.plan) c.load.ensures.input) c.in-Err.ensures.writes;
     }

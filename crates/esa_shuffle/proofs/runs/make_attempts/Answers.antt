@@ -29,6 +29,8 @@ use Rattle.esa_floor.specs.declared.turn.Outcome.TheVariants as outcome
 use Rattle.esa_press.specs.Contents.{AreItems, AreOutputsStored}
 use Rattle.esa_shuffle.specs.Attempts.{outcome_of}
 use Rattle.esa_shuffle.proofs.Contents.{faithful_before}
+use Rattle.esa_shuffle.proofs.Taken.{cut_writes}
+use Rattle.esa_shuffle.specs.Records.{WritesOf}
 use Rattle.esa_shuffle.proofs.runs.make_attempts.Goals as goal
 
 -- the turns that an attempt adds are those of its list, completed
@@ -127,6 +129,8 @@ loop-attempt-preserved g c =
       input = λ record_of faithful input.
           done.input record_of (subst (λ (q : Sizes). IsFaithful q c.make_attempt.new.floor.recorder.log) (sym inv.before.plan) faithful)
           (inv.input record_of (faithful_before p f.recorder.log c.make_attempt.new.floor.recorder.log done.log faithful) input);
+      took = λ record_of items took. done.took record_of (subst (λ (q : Sizes). AreItems (item_length q.form) record_of) (sym inv.before.plan) items) (inv.took record_of items took);
+      writes = λ none. c.in-Ok.ensures.writes (inv.writes none);
       origin = done.origin ∙ inv.origin;
     }
 
@@ -162,3 +166,32 @@ returns-then-is_good-clause-outputs g c = λ record_of named items faithful inpu
 
 pub returns-in-Err-clause-outputs : goal.returns-in-Err-clause-outputs
 returns-in-Err-clause-outputs g c = λ record_of named items faithful input same. absurd (not_shuffled c.in-Err.fault named (sym c.outcome_by.ensures ∙ same))
+
+pub returns-then-is_good-clause-input : goal.returns-then-is_good-clause-input
+returns-then-is_good-clause-input g c = λ record_of faithful input.
+    let inv = c.loop-attempt.invariant in
+    let done = c.make_attempt.ensures in
+    done.input record_of (subst (λ (q : Sizes). IsFaithful q c.make_attempt.new.floor.recorder.log) (sym inv.before.plan) faithful)
+    (inv.input record_of (faithful_before g.G.Told.plan c.loop-attempt.floor.recorder.log c.make_attempt.new.floor.recorder.log done.log faithful) input)
+
+pub returns-in-Err-clause-input : goal.returns-in-Err-clause-input
+returns-in-Err-clause-input g c = λ record_of faithful input.
+    let inv = c.loop-attempt.invariant in
+    let done = c.make_attempt.ensures in
+    done.input record_of (subst (λ (q : Sizes). IsFaithful q c.make_attempt.new.floor.recorder.log) (sym inv.before.plan) faithful)
+    (inv.input record_of (faithful_before g.G.Told.plan c.loop-attempt.floor.recorder.log c.make_attempt.new.floor.recorder.log done.log faithful) input)
+
+pub returns-then-is_good-clause-took : goal.returns-then-is_good-clause-took
+returns-then-is_good-clause-took g c = λ record_of items took.
+    let inv = c.loop-attempt.invariant in
+    c.make_attempt.ensures.took record_of (subst (λ (q : Sizes). AreItems (item_length q.form) record_of) (sym inv.before.plan) items) (inv.took record_of items took)
+
+pub returns-in-Err-clause-took : goal.returns-in-Err-clause-took
+returns-in-Err-clause-took g c = λ record_of items took.
+    let inv = c.loop-attempt.invariant in
+    c.make_attempt.ensures.took record_of (subst (λ (q : Sizes). AreItems (item_length q.form) record_of) (sym inv.before.plan) items) (inv.took record_of items took)
+
+pub returns-in-Err-clause-writes : goal.returns-in-Err-clause-writes
+returns-in-Err-clause-writes g c = λ none.
+    subst (λ (o : Outcome). WritesOf o c.make_attempt.new.floor.recorder.log) (sym c.outcome_by.ensures)
+    (cut_writes c.in-Err.fault c.make_attempt.new.floor.recorder.log (c.in-Err.ensures.writes (c.loop-attempt.invariant.writes none)))

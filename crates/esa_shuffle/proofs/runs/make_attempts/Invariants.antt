@@ -2,6 +2,9 @@
 use Rattle.std.proofs.Common.{◌≡◌, ℕ, ◌<◌, length}
 use Rattle.esa_device.specs.Logs.{IsFaithful}
 use Rattle.esa_floor.specs.Keeping.{HasInput}
+use Rattle.esa_floor.specs.Written.{EachTookItsBlock, NoWriteFailed}
+use Rattle.esa_params.specs.Slots.{item_length}
+use Rattle.esa_press.specs.Contents.{AreItems}
 use Rattle.esa_report.specs.declared.item.Item.{Item}
 use Rattle.esa_spec.specs.Fronts.{Begins}
 use Rattle.esa_crew.specs.Posts.{AreMembers}
@@ -20,5 +23,7 @@ invariant-loop-attempt g l = record {
   run : l.press.run ≡ l.floor.run;
   log : Begins l.initial.floor.recorder.log l.floor.recorder.log;
   input : (record_of : ℕ → Item) → IsFaithful g.G.Told.plan l.floor.recorder.log → HasInput l.initial.floor record_of → HasInput l.floor record_of;
+  took : (record_of : ℕ → Item) → AreItems (item_length g.G.Told.plan.form) record_of → EachTookItsBlock g.G.Told.draws record_of l.initial.floor → EachTookItsBlock g.G.Told.draws record_of l.floor;
+  writes : NoWriteFailed l.initial.floor.recorder.log → NoWriteFailed l.floor.recorder.log;
   origin : roots_of l.floor ≡ roots_of l.initial.floor;
 }

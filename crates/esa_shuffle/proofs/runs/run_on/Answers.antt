@@ -1,5 +1,5 @@
 -- The floor was given up as it had ended.
-use Rattle.std.proofs.Common.{◌≢◌, ℕ, List, [], ◌∷◌, ◌++◌, sym, ap, ap₂, ◌∙◌, subst}
+use Rattle.std.proofs.Common.{◌≡◌, ◌≢◌, ℕ, List, [], ◌∷◌, ◌++◌, sym, ap, ap₂, ◌∙◌, subst}
 use Rattle.esa_device.specs.Recording.{Recorded}
 use Rattle.esa_params.specs.Sizes.{Sizes}
 use Rattle.esa_floor.specs.Parts.{Parts}
@@ -29,6 +29,9 @@ returns-clause-given g c =
     let hs = made p ds c.args.turns.now in
     let done = c.load_and_run-outcome in
     let recorder = ap (λ x. x.recorder) c.give-recorder.ensures ∙ ap (λ (x : Parts _). x.recorder) c.end.ensures.ended in
+    let history : c.give-recorder.result.history ≡ done.new.floor.history ++ p.workers ∷ [] =
+    ap (λ x. x.history) c.give-recorder.ensures ∙ ap (λ (x : Parts _). x.history) c.end.ensures.ended
+    ∙ ap (λ (q : Sizes). done.new.floor.history ++ q.workers ∷ []) done.ensures.ends.stands.of.plan in
     let has = done.ensures.given in
     record {
       given = has.given;
@@ -38,5 +41,6 @@ returns-clause-given g c =
           (ap (λ x. x.history) c.give-recorder.ensures ∙ ap (λ (x : Parts _). x.history) c.end.ensures.ended
           ∙ ap₂ (λ (h : List ℕ) (q : Sizes). h ++ q.workers ∷ []) none done.ensures.ends.stands.of.plan))
           has.load;
-      became = subst (λ (r : Recorded _). IsShuffledFrom p ds hs c.args.floor.outer c.args.floor.run r.log done.result has.given) (sym recorder) has.became;
+      became = subst (λ (h : List ℕ). IsShuffledFrom p ds hs c.args.floor.outer c.args.floor.run h c.give-recorder.result.recorder.log done.result has.given) (sym history)
+          (subst (λ (r : Recorded _). IsShuffledFrom p ds hs c.args.floor.outer c.args.floor.run (done.new.floor.history ++ p.workers ∷ []) r.log done.result has.given) (sym recorder) has.became);
     }

@@ -1,5 +1,7 @@
 -- The floor and the tools that were made are those of the plan.
-use Rattle.std.proofs.Common.{◌≢◌, ℕ, ◌<◌, [], ◌∷◌, get_or, sym, ap, subst, arith}
+use Rattle.std.proofs.Common.{◌≢◌, ℕ, ◌<◌, [], ◌∷◌, length, get_or, sym, ap, ◌∙◌, subst, arith}
+use Rattle.std.proofs.lemmas.List.{length-map, nil_from_length}
+use Rattle.esa_device.specs.Logs.{Carried}
 use Rattle.esa_envelope.specs.declared.keys.Keys.{Keys}
 use Rattle.esa_params.specs.Sizes.{ArePlanned, Sizes}
 use Rattle.esa_floor.specs.Parts.{Parts}
@@ -58,8 +60,15 @@ returns-in-Ok-make-2-clause-given g c =
     let part = g.R.Records.part (g.R.Records.grounds c.args.batch.now) in
     let before = g.R.Records.heard c.args.batch.now in
     let after = g.R.Records.heard c.run_on.new.batch in
-    subst (λ (q : Sizes). HasGiven q told part before after (ran.history ≢ q.workers ∷ []) (IsShuffledFrom q ds (made q ds turns) c.args.outer c.args.run ran.recorder.log ran.outcome)) c.requires.plan
+    subst (λ (q : Sizes). HasGiven q told part before after (ran.history ≢ q.workers ∷ []) (IsShuffledFrom q ds (made q ds turns) c.args.outer c.args.run ran.history ran.recorder.log ran.outcome)) c.requires.plan
     (subst (λ (k : Keys). HasGiven g.G.Told.plan told part before after (ran.history ≢ g.G.Told.plan.workers ∷ [])
-    (IsShuffledFrom g.G.Told.plan ds (made g.G.Told.plan ds turns) c.args.outer k ran.recorder.log ran.outcome)) (ap (λ (x : Parts _). x.run) parts)
+    (IsShuffledFrom g.G.Told.plan ds (made g.G.Told.plan ds turns) c.args.outer k ran.history ran.recorder.log ran.outcome)) (ap (λ (x : Parts _). x.run) parts)
     (subst (λ (k : Keys). HasGiven g.G.Told.plan told part before after (ran.history ≢ g.G.Told.plan.workers ∷ [])
-    (IsShuffledFrom g.G.Told.plan ds (made g.G.Told.plan ds turns) k c.in-Ok-make-2.floor.run ran.recorder.log ran.outcome)) (ap (λ (x : Parts _). x.outer) parts) c.run_on.ensures.given))
+    (IsShuffledFrom g.G.Told.plan ds (made g.G.Told.plan ds turns) k c.in-Ok-make-2.floor.run ran.history ran.recorder.log ran.outcome)) (ap (λ (x : Parts _). x.outer) parts) c.run_on.ensures.given))
+
+pub run_on-requires-clause-log : goal.run_on-requires-clause-log
+run_on-requires-clause-log g c =
+    let log = c.args.recorder.log in
+    let none = ap length c.keeps_its_log.ensures.accesses ∙ ap length c.requires.trace in
+    ap (λ (x : Parts _). x.recorder.log) c.in-Ok-make-2.ensures.parts
+    ∙ nil_from_length log (sym (length-map log (λ (entry : Carried). entry.access)) ∙ none)
