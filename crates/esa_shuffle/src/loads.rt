@@ -2,7 +2,7 @@
 
 ghost use Rattle.std.specs.Prelude.{◌≡◌, IsOk};
 ghost use Rattle.esa_params.specs.Form.{envelope_length};
-ghost use Rattle.esa_shuffle.specs.Loading.{EndsLoad, HasGiven, IsNewFloor};
+ghost use Rattle.esa_shuffle.specs.Loading.{EndsLoad, HasGiven, IsUnbegun};
 
 use esa_crew::loaded_floors_begin;
 use esa_device::Device;
@@ -10,13 +10,13 @@ use esa_floor::{Floor, Outcome, Told};
 use esa_load::{LoadFault, Loader};
 use esa_outside::Records;
 
-/// Loads a batch on a floor on which nothing was done. Where the batch or the device failed, the run ends so.
-pub(crate) fn load<V: Device, G: Told, R: Records>(
+/// Loads a batch on a floor of which no attempt was begun. Where the batch or the device failed, the run ends so.
+pub fn load<V: Device, G: Told, R: Records>(
     floor: &mut Floor<V, G>,
     loader: &mut Loader,
     batch: &mut R,
 ) -> Result<(), Outcome>
-    requires new { IsNewFloor V.faults G.plan G.draws floor.old }
+    requires new { IsUnbegun V.faults G.plan G.draws floor.old }
     requires plan { loader.old.plan ≡ floor.old.plan }
     requires run { loader.old.run ≡ floor.old.run }
     requires count { R.count batch.old ≡ floor.old.plan.n }

@@ -1,7 +1,8 @@
 -- The attempts end the run after the load, or the load does.
-use Rattle.std.proofs.Common.{◌≡◌, ◌≢◌, true, false, ℕ, [], refl, sym, ap, ◌∙◌, subst}
+use Rattle.std.proofs.Common.{◌≡◌, ◌≢◌, true, false, ℕ, [], length, arith, refl, sym, ap, ◌∙◌, subst}
 use Rattle.esa_params.specs.Sizes.{Sizes}
 use Rattle.esa_floor.specs.Parts.{Parts}
+use Rattle.esa_spec.specs.Histories.{begun}
 use Rattle.esa_model.specs.Forecast.{made}
 use Rattle.esa_shuffle.specs.Loading.{HasGiven}
 use Rattle.esa_shuffle.specs.Runs.{MayEnd}
@@ -32,3 +33,16 @@ returns-in-Err-clause-given g c =
     subst (λ (q : Sizes). HasGiven q told part before after (c.load.new.floor.history ≢ [])) c.requires.new.stands.of.plan
     (given_where c.args.floor.now.plan told part before after (false ≡ true) (c.load.new.floor.history ≢ [])
     (λ some. absurd (some (ap (λ (x : Parts _). x.history) c.load.ensures.floor ∙ c.requires.new.history))) c.in-Err.ensures.given)
+
+pub load-requires-clause-new : goal.load-requires-clause-new
+load-requires-clause-new g c =
+    let new = c.requires.new in
+    record {
+      stands = new.stands;
+      planned = new.planned;
+      none_begun = ap (begun c.args.floor.now.plan.workers) new.history;
+      room = let none = ap length new.history in let some = new.room in omega (arith, none, some);
+      outcome = new.outcome;
+      trace = new.trace;
+      calm = new.calm;
+    }
