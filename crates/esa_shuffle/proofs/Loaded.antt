@@ -25,24 +25,24 @@ use Rattle.esa_load.specs.declared.fault.LoadFault.{LoadFault}
 use Rattle.esa_load.specs.declared.fault.LoadFault.TheVariants.{Batch, Device}
 use Rattle.esa_crew.specs.Loads.{IsLoaded}
 use Rattle.esa_crew.proofs.Finishing.{batch_fails, load_fails}
-use Rattle.esa_shuffle.specs.Loading.{EndsLoad, HasGiven, IsGiven, IsNewFloor, TakesInput}
+use Rattle.esa_shuffle.specs.Loading.{EndsLoad, HasGiven, IsGiven, IsUnbegun, TakesInput}
 use Rattle.esa_shuffle.specs.Records.{record_at}
 
 -- where the log is faithful, it has the records that were given as its input
 abbrev pub IsInputOfLog : Sizes → Keys → Keys → List ℕ → List Carried → Type 0
 IsInputOfLog p outer run given log = IsFaithful p log → IsInput p outer run (record_at p outer given) log
 
-module _ {V : Type 0} (faults : V → ℕ) (p : Sizes) (ds : ℕ → Draw) (f : Parts V) (new : IsNewFloor faults p ds f) (r : Recorded V)
+module _ {V : Type 0} (faults : V → ℕ) (p : Sizes) (ds : ℕ → Draw) (f : Parts V) (new : IsUnbegun faults p ds f) (r : Recorded V)
     (told : Option (List (List ℕ))) (part : ℕ → List ℕ → List Event) (given : List ℕ) (before after : Source)
   where
     abbrev loaded : Parts V
     loaded = record f { recorder = r }
 
     none_begun : begun f.plan.workers f.history ≡ 0
-    none_begun = ap (begun f.plan.workers) new.history
+    none_begun = new.none_begun
 
     room_left : length f.history < f.room
-    room_left = let none = ap length new.history in let some = new.room in omega (arith, none, some)
+    room_left = new.room
 
     -- the writes of the first k buckets were asked for
     module _ (k : ℕ) (entries : List Carried) (are : AreGiven f.plan told part k given entries f.recorder r before after) where

@@ -8,6 +8,7 @@ use Rattle.esa_params.specs.Form.{envelope_length}
 use Rattle.esa_params.specs.Sizes.{ArePlanned, Sizes, below, first}
 use Rattle.esa_spec.specs.Draws.{Draw}
 use Rattle.esa_floor.specs.Keeping.{HasInput}
+use Rattle.esa_spec.specs.Histories.{begun}
 use Rattle.esa_floor.specs.Parts.{Parts, begun_as, ended_as}
 use Rattle.esa_floor.specs.Standing.{Stands}
 use Rattle.esa_floor.specs.Written.{NoWriteFailed}
@@ -22,6 +23,16 @@ pub record IsNewFloor {V : Type 0} (faults : V → ℕ) (p : Sizes) (ds : ℕ �
   pub planned : ArePlanned p
   pub history : f.history ≡ []
   pub room : 0 < f.room
+  pub outcome : f.outcome ≡ None
+  pub trace : f.recorder.trace ≡ []
+  pub calm : faults f.recorder.device ≡ f.faults
+
+-- a floor on which nothing was done but that workers may have had turns in no attempt, with room for an entry more
+pub record IsUnbegun {V : Type 0} (faults : V → ℕ) (p : Sizes) (ds : ℕ → Draw) (f : Parts V) : Type 0 where
+  pub stands : Stands faults p ds f
+  pub planned : ArePlanned p
+  pub none_begun : begun f.plan.workers f.history ≡ 0
+  pub room : length f.history < f.room
   pub outcome : f.outcome ≡ None
   pub trace : f.recorder.trace ≡ []
   pub calm : faults f.recorder.device ≡ f.faults

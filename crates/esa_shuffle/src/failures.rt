@@ -26,7 +26,7 @@ impl Model for Failures {
 
 impl Failures {
     /// No failure, with room for those of a run.
-    pub(crate) fn make(alloc: Global) -> Result<Failures, AllocError>
+    pub fn make(alloc: Global) -> Result<Failures, AllocError>
         ensures { IfOk result (λ failures. failures ≡ []) }
     {
         let verdicts = Vec::with_capacity(alloc, 16)?;
@@ -34,7 +34,7 @@ impl Failures {
     }
 
     /// One failure more.
-    pub(crate) fn add(&mut self, verdict: Verdict)
+    pub fn add(&mut self, verdict: Verdict)
         requires { length self.old < 16 }
         ensures { self.new ≡ self.old ++ verdict ∷ [] }
     {

@@ -16,7 +16,9 @@ mod shuffle;
 mod tools;
 
 pub use failures::Failures;
-pub use runs::Ran;
+pub use loads::load;
+pub use rest::finish;
+pub use runs::{Ran, is_good, outcome_by};
 pub use shuffle::{NoRun, run_turns};
 
 #[cfg(test)]

@@ -3,7 +3,7 @@
 ghost use Rattle.std.specs.Prelude.{◌≡◌, All, IsOk, OnOk, []};
 ghost use Rattle.esa_floor.specs.Written.{IsOfInput};
 ghost use Rattle.esa_params.specs.Form.{envelope_length};
-ghost use Rattle.esa_shuffle.specs.Loading.{EndsLoad, HasGiven, IsNewFloor, TakesInput, WritesLoaded};
+ghost use Rattle.esa_shuffle.specs.Loading.{EndsLoad, HasGiven, IsUnbegun, TakesInput, WritesLoaded};
 
 use esa_crew::loaded_floors_begin;
 use esa_device::Device;
@@ -11,13 +11,13 @@ use esa_floor::{Floor, Outcome, Told};
 use esa_load::{LoadFault, Loader, loaded_batches_are_input};
 use esa_outside::Records;
 
-/// Loads a batch on a floor on which nothing was done. Where the batch or the device failed, the run ends so.
-pub(crate) fn load<V: Device, G: Told, R: Records>(
+/// Loads a batch on a floor of which no attempt was begun. Where the batch or the device failed, the run ends so.
+pub fn load<V: Device, G: Told, R: Records>(
     floor: &mut Floor<V, G>,
     loader: &mut Loader,
     batch: &mut R,
 ) -> Result<(), Outcome>
-    requires new { IsNewFloor V.faults G.plan G.draws floor.old }
+    requires new { IsUnbegun V.faults G.plan G.draws floor.old }
     requires log { floor.old.recorder.log ≡ [] }
     requires plan { loader.old.plan ≡ floor.old.plan }
     requires run { loader.old.run ≡ floor.old.run }

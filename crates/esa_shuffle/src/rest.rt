@@ -67,7 +67,7 @@ fn press_on<V: Device, G: Told, C: Coins>(
 
 /// Goes on with an attempt that takes no more turns: they have stopped, or all chunks are written. It is drained and
 /// compressed, unless a turn of it failed.
-pub(crate) fn finish<V: Device, G: Told, C: Coins>(
+pub fn finish<V: Device, G: Told, C: Coins>(
     floor: &mut Floor<V, G>,
     press: &mut Press,
     coins: &C,

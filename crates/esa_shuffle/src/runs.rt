@@ -50,7 +50,7 @@ pub struct Ran<V: Device> {
 }
 
 /// The outcome of a run in which a block was not put or got.
-fn outcome_by(fault: VaultFault) -> Outcome
+pub fn outcome_by(fault: VaultFault) -> Outcome
     ensures { result ≡ outcome_of fault }
 {
     match fault {
@@ -60,7 +60,7 @@ fn outcome_by(fault: VaultFault) -> Outcome
 }
 
 /// Whether an attempt that ends so is good.
-fn is_good(verdict: Verdict) -> bool
+pub fn is_good(verdict: Verdict) -> bool
     ensures { result ≡ verdicts.is_good verdict }
 {
     match verdict {

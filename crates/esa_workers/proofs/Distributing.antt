@@ -142,7 +142,7 @@ pub record HasCrewed {V C : Type 0} (faults : V → ℕ) (ds : ℕ → Draw) (ta
   pub worked : (k : ℕ) (d : Manned (Working C) (Parts V)) → k < length told_posts → HasWorked faults ds target_lists p t (get_or told_posts k d) (get_or new_posts k d)
   pub knows : (k : ℕ) (d : Manned (Working C) (Parts V)) → k < length new_posts → Knows heard (get_or new_posts k d).pass
 
-first_of : {X : Type 0} (xs : List X) → 0 < length xs → X
+pub first_of : {X : Type 0} (xs : List X) → 0 < length xs → X
 first_of [] some = absurd (omega (arith, some))
 first_of (x ∷ xs) some = x
 

@@ -1,9 +1,10 @@
 -- The attempts end the run after the load, or the load does.
-use Rattle.std.proofs.Common.{◌≡◌, ◌≢◌, true, false, ℕ, ◌*◌, [], ◌∷◌, ◌++◌, All, refl, sym, ap, ◌∙◌, subst}
+use Rattle.std.proofs.Common.{◌≡◌, ◌≢◌, true, false, ℕ, ◌*◌, [], ◌∷◌, ◌++◌, All, length, arith, refl, sym, ap, ◌∙◌, subst}
 use Rattle.esa_params.specs.Form.{envelope_length}
 use Rattle.esa_params.specs.Sizes.{Sizes, first}
 use Rattle.esa_floor.specs.Parts.{Parts}
 use Rattle.esa_floor.specs.Written.{IsOfInput}
+use Rattle.esa_spec.specs.Histories.{begun}
 use Rattle.esa_model.specs.Forecast.{made}
 use Rattle.esa_shuffle.specs.Loading.{HasGiven, TakesInput}
 use Rattle.esa_shuffle.specs.Runs.{MayEnd}
@@ -55,4 +56,17 @@ returns-in-Err-clause-given g c =
           (λ some. absurd (some (ap (λ (x : Parts _). x.history) c.load.ensures.floor ∙ c.requires.new.history))) has.load;
       became = not_shuffled p ds (made p ds c.args.turns.now) f.outer f.run (c.load.new.floor.history ++ p.workers ∷ []) c.load.new.floor.recorder.log c.in-Err.outcome has.given c.in-Err.ensures.ends.2
           (subst (λ (q : Sizes). All (IsOfInput q) c.load.new.floor.recorder.log) (ap (λ (x : Parts _). x.plan) c.load.ensures.floor ∙ c.requires.new.stands.of.plan) c.load.ensures.input) c.in-Err.ensures.writes;
+    }
+
+pub load-requires-clause-new : goal.load-requires-clause-new
+load-requires-clause-new g c =
+    let new = c.requires.new in
+    record {
+      stands = new.stands;
+      planned = new.planned;
+      none_begun = ap (begun c.args.floor.now.plan.workers) new.history;
+      room = let none = ap length new.history in let some = new.room in omega (arith, none, some);
+      outcome = new.outcome;
+      trace = new.trace;
+      calm = new.calm;
     }

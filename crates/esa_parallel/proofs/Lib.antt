@@ -1,0 +1,2 @@
+mod Attempting
+mod Between
