@@ -3,10 +3,11 @@
 
     bench/changed.py
 
-writes crates/esa_cases/data/changed_*.txt, and prints the lines that a run of them prints where nothing differs. A small file of each kind is read with each of its bytes in turn set to 0, to 255, and to its complement; of the drops file
-those of some lines. What is answered is worked out from docs/FORMATS.md: the tests of a file are gone through below, an
-envelope opens where its tag is right by Python's HMAC, and JSON is what Python's reader takes. Neighbouring bytes with one
-answer are one case.
+writes crates/esa_cases/data/changed_*.txt, and prints the lines that a run of them prints where nothing differs. A
+small file of each kind is read with each of its bytes in turn set to 0, to 255, and to its complement; of the drops
+file those of some lines. What is answered is worked out from docs/FORMATS.md: the tests of a file are gone through
+below, an envelope opens where its tag is right by Python's HMAC, and JSON is what Python's reader takes. Neighbouring
+bytes with one answer are one case.
 """
 
 import collections
