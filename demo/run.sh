@@ -66,7 +66,7 @@ story() {
     echo '   Crowd and value are sealed now, in 352 hexadecimal digits a line:'
     head -n 1 submissions | cut -c 1-72
     step 2
-    echo '   Moment and sender are gone, and the envelopes are in rising order, so nothing tells which came first:'
+    echo '   Moment and sender are gone, and the envelopes are in rising order, in whichever order they came:'
     head -c 11 batch | od -An -tx1
     step 3
     echo '   So a shuffle of these 2,000 records will do; it will touch the external memory so often.'

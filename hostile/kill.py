@@ -3,41 +3,73 @@
 
     hostile/kill.py [--esa PROGRAM]
 
-`strace` kills a command at its Nth call of each kind, for each N, once for each command of stage.py that has a file to
-write. Then every file that was there before must be byte for byte as it was, unless it is one that the command writes;
-what is there of an output must be the beginning of what it becomes; and the same command, with a fresh run key where it
-runs a shuffle, must answer, print and write what it does undisturbed. Prints for each command how often it was killed,
-and how often an output was cut.
+`strace` kills each command of stage.py at its Nth call of each kind, for each N. Then every file that was there before
+must be byte for byte as it was, and what is there of an output must be the beginning of what it becomes; and the same
+command, with a fresh run key where it runs a shuffle, must answer, print and write what it does undisturbed. Prints for
+each command how often it was killed, how often an output was cut then, and how often all outputs were there whole.
 """
 
 import collections
 import json
 import os
 import re
-import subprocess
 import tempfile
 
-from stage import DEVICE, KEYS, STEPS, arguments, call, files_of, prepare, program_of, put, restore, settle
+from stage import DEVICE, KEYS, STEPS, arguments, call, files_of, prepare, program_of, restore, settle
 
 KILLED = -9
 
 
-def kinds_of(esa, folder, command, job):
-    """How many calls of each kind a command makes, from its own beginning on."""
-    log = os.path.join(folder, "calls")
-    call(esa, folder, command, job, ["strace", "-o", log])
-    with open(log, encoding="utf-8", errors="replace") as file:
-        kinds = re.findall(r"^(\w+)\(", file.read(), re.M)
-    os.remove(log)
-    counts = collections.Counter(kinds)
-    del counts["execve"]
-    counts.pop("exit_group", None)
-    return counts
+class Step:
+    """A command in its folder: the files before it, and what it answers and leaves undisturbed."""
 
+    def __init__(self, esa, folder, command, job, fields):
+        self.esa, self.folder, self.command, self.job = esa, folder, command, job
+        self.outputs = {fields[field] for field in ["output", "trace", "turns_out"] if field in fields}
+        self.before = {name: data for name, data in files_of(folder).items() if name != DEVICE}
+        restore(folder, self.before)
+        self.answer = call(esa, folder, command, job)
+        self.done = files_of(folder)
 
-def with_fresh_key(held):
-    """The files, with another run key."""
-    return {**held, "keys.json": json.dumps({**KEYS, "run": os.urandom(32).hex()}).encode()}
+    def kinds(self):
+        """How many calls of each kind it makes, from its own beginning on and but for its last one."""
+        log = os.path.join(self.folder, "calls")
+        call(self.esa, self.folder, self.command, self.job, ["strace", "-o", log])
+        with open(log, encoding="utf-8", errors="replace") as file:
+            kinds = re.findall(r"^(\w+)\(", file.read(), re.M)
+        os.remove(log)
+        return collections.Counter(kind for kind in kinds if kind not in ["execve", "exit_group"])
+
+    def kill(self, kind, number):
+        """Kills it at a call, and answers the files that it leaves."""
+        restore(self.folder, self.before)
+        how = f"inject={kind}:signal=KILL:when={number}"
+        status, _ = call(self.esa, self.folder, self.command, self.job, ["strace", "-o", "/dev/null", "-e", how])
+        return status, files_of(self.folder)
+
+    def faults(self, status, after):
+        """What is wrong with how it was killed, and with the files that it left."""
+        if status != KILLED:
+            yield f"it ended with {status}"
+        for name in self.before:
+            if after[name] != self.before[name]:
+                yield f"it changed {name}"
+        for name in after:
+            if name in self.outputs and not self.done[name].startswith(after[name]):
+                yield f"it left a wrong {name}"
+            elif name not in self.outputs | {DEVICE} and name not in self.before:
+                yield f"it made {name}"
+
+    def faults_again(self, after):
+        """What is wrong with its next call, over what it left."""
+        fresh = {"keys.json": json.dumps({**KEYS, "run": os.urandom(32).hex()}).encode()} if self.command == "run" else {}
+        restore(self.folder, {**after, **fresh})
+        answer, held = call(self.esa, self.folder, self.command, self.job), files_of(self.folder)
+        if answer != self.answer:
+            yield f"then it answers {answer}"
+        for name in self.outputs:
+            if held[name] != self.done[name]:
+                yield f"then it writes another {name}"
 
 
 def main():
@@ -47,33 +79,17 @@ def main():
         prepare(folder)
         print(f"{'command':<10} {'job':<14} {'killed':>7} {'output cut':>11} {'output whole':>13}")
         for command, job, fields in STEPS:
-            outputs = {fields[field] for field in ["output", "trace", "turns_out"] if field in fields}
-            before = files_of(folder)
-            before.pop(DEVICE, None)
-            restore(folder, before)
-            answer = call(esa, folder, command, job)
-            done = files_of(folder)
+            step = Step(esa, folder, command, job, fields)
             killed = cut = whole = 0
-            for kind, count in kinds_of(esa, folder, command, job).items():
+            for kind, count in step.kinds().items():
                 for number in range(1, count + 1):
-                    restore(folder, before)
-                    status, _ = call(esa, folder, command, job, ["strace", "-o", "/dev/null", "-e", f"inject={kind}:signal=KILL:when={number}"])
-                    after = files_of(folder)
-                    if status != KILLED:
-                        wrong.append(f"{command} {job}.json wasn't killed at call {number} of {kind}, but ended with {status}")
-                    killed += 1
-                    wrong += [f"{command} {job}.json, killed at call {number} of {kind}, changed {name}" for name in before if after[name] != before[name]]
-                    there = [name for name in outputs if name in after]
-                    wrong += [f"{command} {job}.json, killed at call {number} of {kind}, left a wrong {name}" for name in there if not done[name].startswith(after[name])]
-                    wrong += [f"{command} {job}.json, killed at call {number} of {kind}, made {name}" for name in after if name not in before and name not in outputs | {DEVICE}]
-                    cut += any(after[name] != done[name] for name in there)
-                    whole += bool(there) and all(after.get(name) == done[name] for name in outputs)
-                    restore(folder, with_fresh_key(after) if command == "run" else after)
-                    again = call(esa, folder, command, job)
-                    held = files_of(folder)
-                    if again != answer or any(held[name] != done[name] for name in outputs):
-                        wrong.append(f"{command} {job}.json, after it was killed at call {number} of {kind}: {again}")
-            restore(folder, done)
+                    status, after = step.kill(kind, number)
+                    faults = [*step.faults(status, after), *step.faults_again(after)]
+                    wrong += [f"{command} {job}.json, killed at call {number} of {kind}: {fault}" for fault in faults]
+                    same = [name in after and after[name] == step.done[name] for name in step.outputs]
+                    killed, whole = killed + 1, whole + (same != [] and all(same))
+                    cut += any(name in after and after[name] != step.done[name] for name in step.outputs)
+            restore(folder, step.done)
             print(f"{command:<10} {job:<14} {killed:>7} {cut:>11} {whole:>13}", flush=True)
     settle(wrong)
 

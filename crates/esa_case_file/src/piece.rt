@@ -40,6 +40,8 @@ fn add_once(out: &mut Vec<u8>, named: &[File], piece: &str) -> Result<(), Wrong>
         "digits" => add_digits(out, bytes_of(named, rest)?),
         "first" => add_front(out, named, rest),
         "from" => add_back(out, named, rest),
+        "not" => Ok(out.push(!byte_and_rest(named, rest)?.0)?),
+        "after" => Ok(out.extend_from_slice(byte_and_rest(named, rest)?.1)?),
         _ => Err(Wrong::Word),
     }
 }
@@ -79,6 +81,15 @@ fn add_front(out: &mut Vec<u8>, named: &[File], rest: &str) -> Result<(), Wrong>
 fn add_back(out: &mut Vec<u8>, named: &[File], rest: &str) -> Result<(), Wrong> {
     let (count, bytes) = part_of(named, rest)?;
     Ok(out.extend_from_slice(&bytes[count..])?)
+}
+
+/// The byte behind the first ones of a name, and what follows it.
+fn byte_and_rest<'a>(named: &'a [File], rest: &str) -> Result<(u8, &'a [u8]), Wrong> {
+    let (count, bytes) = part_of(named, rest)?;
+    match bytes[count..].split_first() {
+        Some((byte, behind)) => Ok((*byte, behind)),
+        None => Err(Wrong::Short),
+    }
 }
 
 /// Adds the lower-case hexadecimal digits of bytes.
