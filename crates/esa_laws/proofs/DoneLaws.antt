@@ -1,15 +1,12 @@
 -- Where each worker found no bucket left, all chunks are written.
-use Rattle.std.proofs.Common.{◌≡◌, ◌≢◌, ℕ, ◌+◌, ◌*◌, ◌%◌, ◌≤◌, ◌<◌, ⊎_elim, Bool, true, false, cond, ◌==◌, List, [], ◌∷◌, ◌++◌, length, refl, sym, ◌∙◌, ap, subst, arith, length-append}
+use Rattle.std.proofs.Common.{◌≡◌, ◌≢◌, ℕ, ◌*◌, ◌≤◌, ◌<◌, ⊎_elim, Bool, true, false, cond, ◌==◌, List, [], ◌∷◌, ◌++◌, length, refl, sym, ◌∙◌, ap, subst, arith, length-append}
 use Rattle.std.specs.Prelude.{slice_index}
-use Rattle.std.proofs.Math.Nat.{mod-eq_of_lt}
 use Rattle.std.proofs.lemmas.Bool.{cases_lt, cases_eq}
 use Rattle.std.proofs.lemmas.List.{get_or_at}
 use Rattle.esa_laws.proofs.Events.{event-by, event-past}
 use Rattle.esa_laws.proofs.FinishLaws.{AllBelow, none-open}
-use Rattle.esa_laws.proofs.RoundLaws.{by_pushes, rounds, Stands, unclaimed, in_round, complete, writes_of, next-by_phase, other-phase, claims-start, claims-inside, new-held}
-use Rattle.esa_laws.proofs.Sums.{sum-below-each}
+use Rattle.esa_laws.proofs.RoundLaws.{by_pushes, rounds, next-by_phase, other-phase, claims-start, claims-inside, new-held}
 use Rattle.esa_laws.proofs.Tests.{equal}
-use Rattle.esa_laws.proofs.TotalLaws.{total-writes}
 use Rattle.esa_laws.proofs.TurnLaws.{event_at-append, held-own, held-other, held-at_claim, worker-append}
 use Rattle.esa_spec.specs.Turns.{event_of, event_at, next, next_phase, claims, held, writes}
 use Rattle.esa_spec.specs.declared.event.Event.TheVariants.{Done, Idle}
