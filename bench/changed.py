@@ -1,18 +1,19 @@
 #!/usr/bin/env python3
-"""Makes the worked cases of files in which one byte is another one, without esa.
+"""Makes the worked cases of files in which one byte is another one, and of files that are cut, without esa.
 
     bench/changed.py
 
 writes crates/esa_cases/data/changed_*.txt, and prints the lines that a run of them prints where nothing differs. A
-small file of each kind is read with each of its bytes in turn set to 0, to 255, and to its complement; of the drops
-file those of some lines. What is answered is worked out from docs/FORMATS.md: the tests of a file are gone through
-below, an envelope opens where its tag is right by Python's HMAC, and JSON is what Python's reader takes. Neighbouring
-bytes with one answer are one case.
+small file of each kind is read with each of its bytes in turn set to 0, to 255, and to its complement, and cut before
+each of its bytes; of the drops file those of some lines. What is answered is worked out from docs/FORMATS.md: the tests
+of a file are gone through below, an envelope opens where its tag is right by Python's HMAC, and JSON is what Python's
+reader takes. Neighbouring bytes with one answer are one case.
 """
 
 import collections
 import json
 import os
+import re
 import struct
 import sys
 
@@ -21,7 +22,21 @@ from make_forward import chacha_block, mac, seal
 
 DATA = os.path.join(os.path.dirname(os.path.dirname(os.path.abspath(__file__))), "crates", "esa_cases", "data")
 ZERO = bytes(32)
-WAYS = [("0", "hex 00", lambda byte: 0), ("255", "hex ff", lambda byte: 255), ("its complement", "not {n} of", lambda byte: 255 - byte)]
+
+
+def with_byte(change):
+    """Makes a file with the byte at a place changed."""
+    return lambda data, at: data[:at] + bytes([change(data[at])]) + data[at + 1:]
+
+
+FRONT, BEHIND = "first {n} of {name}", "after {n} of {name}"
+# How a file is made from another and a place: the case's title, its pieces, and the file.
+WAYS = [
+    ("changed_bytes: {kind}, byte {n} is 0", [FRONT, "hex 00", BEHIND], with_byte(lambda byte: 0)),
+    ("changed_bytes: {kind}, byte {n} is 255", [FRONT, "hex ff", BEHIND], with_byte(lambda byte: 255)),
+    ("changed_bytes: {kind}, byte {n} is its complement", [FRONT, "not {n} of {name}", BEHIND], with_byte(lambda byte: 255 - byte)),
+    ("each_prefix: {kind}, {n} bytes", [FRONT], lambda data, at: data[:at]),
+]
 RECORD = {b"ESAB": {1: 176, 2: 304}, b"ESAF": {1: 104, 2: 232}}
 
 # An answer: the lines that are printed, the status, and the file `output` where one is made.
@@ -176,7 +191,7 @@ def histogram(data):
 
 
 def of_json(refusal):
-    """Of a file that has to be JSON, and is none with any byte changed."""
+    """Of a file that has to be JSON, and is none with any byte changed, nor cut."""
     def answer(data):
         try:
             json.loads(data.decode("utf-8"))
@@ -239,11 +254,12 @@ FILES = {
 }
 
 
-def groups_of(kind, change):
-    """The answers for neighbouring bytes: from which place to which, and what is answered."""
+def groups_of(kind, made):
+    """The answers for neighbouring places of a file that is made from one: from which to which, and what is answered."""
     groups = []
     for at in kind.places or range(len(kind.data)):
-        answer = kind.answer(kind.data[:at] + bytes([change(kind.data[at])]) + kind.data[at + 1:])
+        answer = kind.answer(made(kind.data, at))
+        answer = answer._replace(lines=tuple(re.sub(rf" have {at}$", " have {n}", line) for line in answer.lines))
         if groups and groups[-1][1] == at - 1 and groups[-1][2] == answer:
             groups[-1][1] = at
         else:
@@ -256,18 +272,17 @@ def hex_lines(data):
     return [f"    hex {data[at:at + 32].hex()}" for at in range(0, len(data), 32)]
 
 
-def case_of(kind, name, way, piece, first, last, answer):
+def case_of(kind, title, pieces, first, last, answer):
     """The lines of a case."""
     setting = [f"  in {kind.setting}"] if kind.setting else []
-    changed = f"    {piece} {name}" if piece.endswith(" of") else f"    {piece}"
     output = ["  left output", *hex_lines(answer.output)] if answer.output is not None else []
     status = [f"  status {answer.status}"] if answer.status else []
-    return [f"each {first} to {last}", f"case changed_bytes: {kind.name}, byte {{n}} is {way}", *setting, f"  file {kind.file}",
-            f"    first {{n}} of {name}", changed, f"    after {{n}} of {name}", f"  {kind.call}",
+    return [f"each {first} to {last}", f"case {title}", *setting, f"  file {kind.file}",
+            *(f"    {piece.format(name=name_of(kind), n='{n}')}" for piece in pieces), f"  {kind.call}",
             *("  prints " + line.replace("\\", "\\\\") for line in answer.lines), *status, *output, ""]
 
 
-ABOUT = "# Files in which one byte is 0, 255 or its complement. bench/changed.py makes this file and says what is expected."
+ABOUT = "# Files in which one byte is 0, 255 or its complement, and cut files. bench/changed.py makes this, and says what is expected."
 SETTINGS = {
     "analyse": ["  file job.json", '    text {"keys":"keys.json","input":"input","output":"output"}',
                 "  file keys.json", f'    text {{"inner":"{ZERO.hex()}"}}'],
@@ -288,10 +303,10 @@ def write(file, kinds):
         out += [f"setting {setting}", *SETTINGS[setting], ""]
     for kind in kinds:
         out += [f"bytes {name_of(kind)}", *(line[2:] for line in hex_lines(kind.data)), ""]
-        for way, piece, change in WAYS:
-            for first, last, answer in groups_of(kind, change):
-                out += case_of(kind, name_of(kind), way, piece, first, last, answer)
-                said.append(f"{file}: changed_bytes: {kind.name}, byte {last} is {way}: ok")
+        for title, pieces, made in WAYS:
+            for first, last, answer in groups_of(kind, made):
+                out += case_of(kind, title.format(kind=kind.name, n="{n}"), pieces, first, last, answer)
+                said.append(f"{file}: {title.format(kind=kind.name, n=last)}: ok")
     with open(os.path.join(DATA, file), "w", encoding="utf-8") as made:
         made.write("\n".join(out).rstrip("\n") + "\n")
     return said

@@ -47,10 +47,8 @@ class Step:
         status, _ = call(self.esa, self.folder, self.command, self.job, ["strace", "-o", "/dev/null", "-e", how])
         return status, files_of(self.folder)
 
-    def faults(self, status, after):
-        """What is wrong with how it was killed, and with the files that it left."""
-        if status != KILLED:
-            yield f"it ended with {status}"
+    def faults(self, after):
+        """What is wrong with the files that it left."""
         for name in self.before:
             if after[name] != self.before[name]:
                 yield f"it changed {name}"
@@ -84,7 +82,8 @@ def main():
             for kind, count in step.kinds().items():
                 for number in range(1, count + 1):
                     status, after = step.kill(kind, number)
-                    faults = [*step.faults(status, after), *step.faults_again(after)]
+                    faults = [*step.faults(after), *step.faults_again(after)]
+                    faults += [] if status == KILLED else [f"it ended with {status}"]
                     wrong += [f"{command} {job}.json, killed at call {number} of {kind}: {fault}" for fault in faults]
                     same = [name in after and after[name] == step.done[name] for name in step.outputs]
                     killed, whole = killed + 1, whole + (same != [] and all(same))
