@@ -4,7 +4,7 @@
 
 ghost use Rattle.std.specs.Prelude.{◌≡◌, [], IfOk};
 
-use esa_cli::{End, Status, esa_with_device, tell};
+use esa_cli::{End, Status, esa, tell};
 use esa_device::{FileDevice, Recorder};
 use esa_outside::{HostCabinet, HostPrinter};
 use std::alloc::AllocError;
@@ -43,7 +43,8 @@ fn main(rt: HostRuntime) -> ExitCode {
     let mut printer = HostPrinter::make(&rt);
     let status = match (words(&rt), device(&rt)) {
         (Ok(words), Ok(recorder)) => {
-            esa_with_device(rt.alloc(), &words, &mut cabinet, &mut printer, recorder).status
+            let alloc = rt.alloc();
+            esa(&rt, alloc, &words, &mut cabinet, &mut printer, recorder).status
         }
         _ => tell(End::Stopped(Status::OutOfMemory), &mut printer),
     };

@@ -24,8 +24,10 @@ pub struct File {
 /// What a run calls.
 #[derive(Clone, Copy, PartialEq, Eq, Debug)]
 pub enum Call {
-    /// The program.
+    /// The program, which runs on one thread.
     Program,
+    /// The program, where it can start threads.
+    Crew,
     /// A reader of one file.
     Reader,
 }

@@ -161,6 +161,7 @@ impl Reader {
             "printer" => add_fails(&mut self.case()?.printer_fails, rest),
             "device" => add_device(self.case()?, rest),
             "run" => self.begin_run(Call::Program, rest),
+            "crew" => self.begin_run(Call::Crew, rest),
             "read" => self.begin_run(Call::Reader, rest),
             "prints" => self.add_printed(rest),
             "status" => self.set_status(rest),

@@ -15,6 +15,8 @@ use esa_case_file::{Case, read_cases};
 use run::run_case;
 use std::alloc::Global;
 use std::rt::{Env, Files};
+use std::sync::Wait;
+use std::thread::Threads;
 use std::{env, fs};
 
 /// How many cases were as they say, and how many cases and files weren't.
@@ -37,7 +39,7 @@ fn main(rt: HostRuntime) -> Result<()> {
 
 /// Runs the cases of a file.
 fn run_file(
-    rt: &(impl Files + Print + AllocGlobal),
+    rt: &(impl Files + Print + AllocGlobal + Threads + Wait + Sync),
     counts: &mut Counts,
     file: &str,
 ) -> Result<()> {
@@ -45,7 +47,7 @@ fn run_file(
     match read_cases(rt.alloc(), text.as_str()) {
         Ok(cases) => {
             for case in &cases {
-                let differences = run_case(rt.alloc(), case)?;
+                let differences = run_case(rt, rt.alloc(), case)?;
                 tell(rt, counts, file, case, &differences)?;
             }
         }

@@ -5,13 +5,19 @@ ghost use Rattle.std.specs.Prelude.{◌≡◌, [], IfOk};
 use crate::compare::{difference, difference_of_bytes};
 use crate::readers::{read, reading_of};
 use esa_case_file::{Call, Case, File, Run};
-use esa_cli::{End, Status, esa_with_device, tell};
+use esa_cli::{End, Status, esa, esa_plain, tell};
 use esa_device::{Flip, MemDevice, Recorder};
 use esa_outside::{MemCabinet, MemPrinter};
 use std::alloc::{AllocError, Global};
+use std::sync::Wait;
+use std::thread::Threads;
 
 /// Runs a case, and says what differs from what it says.
-pub fn run_case(alloc: Global, case: &Case) -> Result<Vec<String>, AllocError> {
+pub fn run_case<R: Threads + Wait + Sync>(
+    rt: &R,
+    alloc: Global,
+    case: &Case,
+) -> Result<Vec<String>, AllocError> {
     let fails = Vec::from_slice(alloc, &case.cabinet_fails)?;
     let mut cabinet = MemCabinet::make(Vec::new(alloc), fails);
     put_all(&mut cabinet, &case.files)?;
@@ -20,7 +26,7 @@ pub fn run_case(alloc: Global, case: &Case) -> Result<Vec<String>, AllocError> {
     for (place, run) in case.runs.iter().enumerate() {
         let before = printer.printed().len();
         let recorder = recorder_for(alloc, case)?;
-        let status = perform(alloc, run, &mut cabinet, &mut printer, recorder).code();
+        let status = perform(rt, alloc, run, &mut cabinet, &mut printer, recorder).code();
         let printed = printer.printed().get(before..).unwrap_or_default();
         judge_run(alloc, &mut differences, place, run, status, printed)?;
     }
@@ -45,7 +51,8 @@ fn recorder_for(alloc: Global, case: &Case) -> Result<Recorder<MemDevice>, Alloc
 }
 
 /// Makes a call. Words that name no reader, and a file that isn't there, end with the status of a wrong command line.
-fn perform(
+fn perform<R: Threads + Wait + Sync>(
+    rt: &R,
     alloc: Global,
     run: &Run,
     cabinet: &mut MemCabinet,
@@ -54,16 +61,21 @@ fn perform(
 ) -> Status
     requires { recorder.trace ≡ [] }
 {
-    if run.call == Call::Program {
-        return esa_with_device(alloc, &run.words, cabinet, printer, recorder).status;
+    match run.call {
+        Call::Program => esa_plain(alloc, &run.words, cabinet, printer, recorder).status,
+        Call::Crew => esa(rt, alloc, &run.words, cabinet, printer, recorder).status,
+        Call::Reader => match read_by(alloc, &run.words, cabinet) {
+            Status::Ok => Status::Ok,
+            status => tell(End::Stopped(status), printer),
+        },
     }
-    let status = match reading_of(&run.words) {
+}
+
+/// How the reading of a file ends that words ask for.
+fn read_by(alloc: Global, words: &[String], cabinet: &mut MemCabinet) -> Status {
+    match reading_of(words) {
         Some(reading) => read(alloc, reading, cabinet),
         None => Status::Usage,
-    };
-    match status {
-        Status::Ok => Status::Ok,
-        status => tell(End::Stopped(status), printer),
     }
 }
 

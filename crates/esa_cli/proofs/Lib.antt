@@ -1,5 +1,7 @@
 mod Commands
-mod Devices
 mod Steps
+mod Sound
+mod Acting
 mod Explaining
 mod Telling
+mod Answering

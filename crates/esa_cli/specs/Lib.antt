@@ -1,4 +1,4 @@
 pub mod Call
-pub mod Plain
+pub mod Meaning
 pub mod Explains
-pub mod Device
+pub mod Answers

@@ -2,10 +2,10 @@
 #![tactic(auto)]
 
 mod call;
-mod device;
-mod plain;
+mod dispatch;
+mod performs;
+mod top;
 
-pub use device::{Ended, esa_with_device};
 pub use esa_command::tell;
 pub use esa_refusal::{End, Refusal, Status};
-pub use plain::esa_plain;
+pub use top::{Ended, esa, esa_plain};
