@@ -10,18 +10,21 @@ The run ends where the device fails: at the first access behind the load, at the
 the differences are what the replay and the rest cost. Instructions are callgrind's, and a busy machine changes nothing.
 Callgrind counts each byte of a long copy by the processor's one instruction for it, so the C library is told not to use
 that.
+
+All memory of a run is taken before its first access: a whole attempt takes memory as often as one that ends there.
 """
 
 import os
 import tempfile
 
-from measure import instructions, program, settle
+from measure import allocations, instructions, program, settle
 
 RECORDS, B, C, K = 100_000, 32, 120, 90
 ENVELOPE, ITEM, SEAL = 176, 137, 40
 LOADED = B + 1
 REPLAYED = LOADED + B + B * B
 NEVER = 1_000_000
+FIRST = 1
 REPLAY_LIMIT, REST_LIMIT = 1.2, 1.15
 UNIT = 640_000
 
@@ -40,6 +43,9 @@ def main():
         tails = B * (K * ITEM + SEAL)
         outputs = RECORDS * ITEM + B * SEAL
         opened = RECORDS * (4 * block + 3 * 16 * word)
+        begun, whole = [allocations([attempts, "measure", "attempt", str(fails)], folder) for fails in [FIRST, NEVER]]
+        print(f"memory is taken {begun} times before the first access, and {whole} times in all", flush=True)
+        targets.append(("memory taken behind the first access", whole - begun, 0))
         for name, done, bare, limit in [
             ("replay", replayed - loaded, bytes_of(inputs + chunks, block, word) + opened + copy[0] - copy[1], REPLAY_LIMIT),
             ("drain and compression", ended - replayed, bytes_of(2 * tails + chunks + outputs, block, word), REST_LIMIT),

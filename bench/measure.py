@@ -37,6 +37,16 @@ def instructions(command, folder):
     return int(re.search(r"Collected : (\d+)", run.stderr).group(1))
 
 
+def allocations(command, folder):
+    """How often a command takes memory, as memcheck counts it. It must end with status 0."""
+    run = subprocess.run(
+        ["valgrind", "--tool=memcheck", "--leak-check=no", *command],
+        cwd=folder, stdout=subprocess.DEVNULL, stderr=subprocess.PIPE, text=True)
+    if run.returncode != 0:
+        raise SystemExit(f"{command} ended with status {run.returncode}: {run.stderr[-400:]}")
+    return int(re.search(r"total heap usage: ([\d,]+) allocs", run.stderr).group(1).replace(",", ""))
+
+
 def peak_memory(command, folder):
     """The most bytes that a command had in memory at once."""
     child = subprocess.Popen(command, cwd=folder, stdout=subprocess.DEVNULL)
