@@ -1,6 +1,6 @@
 //! A floor: what the turns of a run work on.
 
-ghost use Rattle.std.specs.Prelude.{◌≡◌, ◌≢◌, ℕ, ◌+◌, ◌-◌, ◌*◌, ◌<◌, ◌≤◌, ◌↔◌, ◌++◌, ◌∷◌, List, [], min, Some, None, IsTrue, IfOk, IfErr, IsOk, OnOk, OnErr, length, map, option_to_list};
+ghost use Rattle.std.specs.Prelude.{◌≡◌, ◌≢◌, ℕ, ◌+◌, ◌-◌, ◌*◌, ◌<◌, ◌≤◌, ◌↔◌, ◌++◌, ◌∷◌, List, [], min, Some, None, IsTrue, IfOk, IfErr, IsOk, OnOk, OnErr, drop, length, map, option_to_list};
 ghost use Rattle.esa_device.specs.Logs.{Carried};
 ghost use Rattle.esa_params.specs.Sizes.{size};
 ghost use Rattle.esa_params.specs.Slots.{access_of, at, greatest_trace};
@@ -117,6 +117,18 @@ impl History {
         ensures { result.now ≡ self.now }
     {
         &self.entries
+    }
+
+    /// The entries behind the first so many.
+    pub fn behind(self, count: usize) -> History
+        requires { count ≤ length self }
+        ensures { result ≡ drop count self }
+    {
+        let History { mut entries } = self;
+        let left = entries.len() - count;
+        entries.as_mut_slice().rotate_left(count);
+        entries.truncate(left);
+        History { entries }
     }
 }
 

@@ -83,7 +83,7 @@ history_on p hs h =
     ap (λ (xs : List ℕ). (w ∷ flat_map each hs) ++ xs) (sym (append-nil (h ++ w ∷ [])))
     ∙ ap (λ (xs : List ℕ). w ∷ xs) (sym (flat_map-append each hs (h ∷ [])))
 
-cut_same : (xs : List (List ℕ)) → AreCut xs xs
+pub cut_same : (xs : List (List ℕ)) → AreCut xs xs
 cut_same [] = tt
 cut_same (h ∷ []) = ([], sym (append-nil h))
 cut_same (h ∷ other ∷ more) = (refl, cut_same (other ∷ more))

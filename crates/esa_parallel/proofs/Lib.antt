@@ -1,2 +1,3 @@
 mod Attempting
 mod Between
+mod Fronting

@@ -65,6 +65,8 @@ pub(crate) fn make_attempts<
     requires draws { (a : ℕ) → G.draws a ≡ drawn (C.target_list coins.now) (C.order_list coins.now) a }
     ensures ends { (count : ℕ) → MayEnd V.faults G.plan G.draws (lists_ended G.plan result.held.value) count count result.held.value failures.new result.outcome }
     ensures took_part { AllTookPart G.plan (lists_ended G.plan result.held.value) }
+    // Nobody had come before the first attempt.
+    ensures alone { held.value.history ≡ [] }
     ensures log { Begins held.value.recorder.log result.held.value.recorder.log }
     ensures origin { roots_of result.held.value ≡ roots_of held.value }
 {

@@ -8,3 +8,4 @@
 
 mod attempt;
 mod attempts;
+mod runs;

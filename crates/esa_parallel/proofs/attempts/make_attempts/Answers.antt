@@ -116,6 +116,27 @@ returns-then-is_good-clause-took_part g c =
     done.fresh k d few (inv.unused start k d few)) in
     took_part_now g.V.Device.faults p ds pre a f new c.loop-attempt.failures inv.between inside same took done.history
 
+pub returns-then-is_good-clause-alone : goal.returns-then-is_good-clause-alone
+returns-then-is_good-clause-alone g c =
+    let p = g.G.Told.plan in
+    let ds = g.G.Told.draws in
+    let f = c.loop-attempt.held.value in
+    let inv = c.loop-attempt.invariant in
+    let a = c.loop-attempt.attempt in
+    let inside : a < p.attempts = omega (arith, c.loop-attempt-test.true, c.attempts-attempt-end.ensures.value, ap (λ (q : Sizes). q.attempts) (c.plan.ensures ∙ c.requires.next.of.plan)) in
+    let done = c.make_attempt-after.ensures in
+    let new = c.make_attempt-after.result.held.value in
+    let pre = c.args.held.value.history in
+    let same : new.plan ≡ p = ap (λ (r : Roots). r.plan) (done.floor.origin ∙ sym inv.floor.origin) ∙ inv.between.plan in
+    let took : TookPart p (turns_made new) = record { workers = done.turns.workers; each = done.turns.each } in
+    let none : pre ≡ [] = alone_now p.workers a pre f.history inv.alone inv.first c.requires.floor.named
+    (none_before g.V.Device.faults p ds c.args.held.value c.requires.next c.requires.next.of.plan)
+    (λ start k less.
+    let few : k < length c.loop-attempt.posts = let each = inv.each in omega (arith, each, less) in
+    let d = first_of c.loop-attempt.posts (omega (arith, few)) in
+    done.fresh k d few (inv.unused start k d few)) in
+    none
+
 pub returns-then-is_good-clause-log : goal.returns-then-is_good-clause-log
 returns-then-is_good-clause-log g c =
     onward c.args.held.value.recorder.log c.loop-attempt.held.value.recorder.log c.make_attempt-after.result.held.value.recorder.log c.loop-attempt.invariant.log c.make_attempt-after.ensures.log
@@ -166,6 +187,27 @@ returns-in-Err-clause-took_part g c =
     let d = first_of c.loop-attempt.posts (omega (arith, few)) in
     done.fresh k d few (inv.unused start k d few)) in
     took_part_now g.V.Device.faults p ds pre a f new c.loop-attempt.failures inv.between inside same took done.history
+
+pub returns-in-Err-clause-alone : goal.returns-in-Err-clause-alone
+returns-in-Err-clause-alone g c =
+    let p = g.G.Told.plan in
+    let ds = g.G.Told.draws in
+    let f = c.loop-attempt.held.value in
+    let inv = c.loop-attempt.invariant in
+    let a = c.loop-attempt.attempt in
+    let inside : a < p.attempts = omega (arith, c.loop-attempt-test.true, c.attempts-attempt-end.ensures.value, ap (λ (q : Sizes). q.attempts) (c.plan.ensures ∙ c.requires.next.of.plan)) in
+    let done = c.make_attempt-after.ensures in
+    let new = c.make_attempt-after.result.held.value in
+    let pre = c.args.held.value.history in
+    let same : new.plan ≡ p = ap (λ (r : Roots). r.plan) (done.floor.origin ∙ sym inv.floor.origin) ∙ inv.between.plan in
+    let took : TookPart p (turns_made new) = record { workers = done.turns.workers; each = done.turns.each } in
+    let none : pre ≡ [] = alone_now p.workers a pre f.history inv.alone inv.first c.requires.floor.named
+    (none_before g.V.Device.faults p ds c.args.held.value c.requires.next c.requires.next.of.plan)
+    (λ start k less.
+    let few : k < length c.loop-attempt.posts = let each = inv.each in omega (arith, each, less) in
+    let d = first_of c.loop-attempt.posts (omega (arith, few)) in
+    done.fresh k d few (inv.unused start k d few)) in
+    none
 
 pub returns-in-Err-clause-log : goal.returns-in-Err-clause-log
 returns-in-Err-clause-log g c =
@@ -225,3 +267,14 @@ returns-clause-ends g c =
     let some : 1 ≤ a = omega (arith, least, past, value, plan) in
     ends_all g.V.Device.faults p g.G.Told.draws c.args.held.value.history a c.loop-attempt.held.value c.loop-attempt.failures inv.between (inv.alone some) some
     (omega (arith, past, most, value, plan))
+
+pub returns-clause-alone : goal.returns-clause-alone
+returns-clause-alone g c =
+    let a = c.loop-attempt.attempt in
+    let p = g.G.Told.plan in
+    let least = c.requires.planned.parameters.attempts_least in
+    let past = c.loop-attempt-test.false in
+    let value = c.attempts-attempt-end.ensures.value in
+    let plan = ap (λ (q : Sizes). q.attempts) (c.plan.ensures ∙ c.requires.next.of.plan) in
+    let some : 1 ≤ a = omega (arith, least, past, value, plan) in
+    c.loop-attempt.invariant.alone some
