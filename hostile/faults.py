@@ -3,12 +3,12 @@
 
     hostile/faults.py [--esa PROGRAM]
 
-`strace` answers a command's Nth call of each kind with an error (EIO), for each N. Then the command has to answer, print
-and write what it does undisturbed, where the call doesn't matter; or to say which file or which block failed, by status 4
-or 5 and its line, or by status 5 and no more lines where that was the printer; or it didn't begin, since the system's own
-loader failed. No file that was there before may be changed, and what is there of an output has to be the beginning of
-what it becomes; and the next call, with a fresh run key where it runs a shuffle, must answer, print and write what it does
-undisturbed. Prints for each command how often which of these came.
+`strace` answers a command's Nth call of each kind with an error (EIO), for each N. Then the command has to answer,
+print and write what it does undisturbed, where the call doesn't matter; or to say which file or which block failed, by
+status 4 or 5 and its line, or by status 5 and no more lines where that was the printer; or it didn't begin, since the
+system's own loader failed. No file that was there before may be changed, and what is there of an output has to be the
+beginning of what it becomes, or of a trace its first accesses; and the next call, with a fresh run key where it runs a
+shuffle, must answer, print and write what it does undisturbed. Prints for each command how often which of these came.
 """
 
 import re
@@ -17,7 +17,8 @@ import tempfile
 from kill import Step
 from stage import STEPS, arguments, call, files_of, prepare, program_of, restore, settle
 
-KINDS = ["openat", "read", "pread64", "write", "pwrite64", "lseek", "ftruncate", "fstat", "newfstatat", "statx", "flock", "close"]
+KINDS = ["openat", "read", "pread64", "write", "pwrite64", "lseek", "ftruncate", "fstat", "newfstatat", "statx", "flock",
+         "close"]
 ROLES = "job|keys|drops|turns|input|coins|output|trace|turns_out"
 NOT_BEGUN = 127
 

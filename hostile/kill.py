@@ -20,6 +20,13 @@ from stage import DEVICE, KEYS, STEPS, arguments, call, files_of, prepare, progr
 KILLED = -9
 
 
+def is_beginning(part, whole):
+    """What is there of a file is its beginning, or it is a whole trace of the first accesses of the one that is due."""
+    accesses, rest = divmod(len(part) - 9, 19)
+    is_trace = part[:5] == whole[:5] == b"ESAT\x01" and rest == 0 and part[5:9] == accesses.to_bytes(4, "big")
+    return whole.startswith(part) or (is_trace and whole[9:].startswith(part[9:]))
+
+
 class Step:
     """A command in its folder: the files before it, and what it answers and leaves undisturbed."""
 
@@ -53,7 +60,7 @@ class Step:
             if after[name] != self.before[name]:
                 yield f"it changed {name}"
         for name in after:
-            if name in self.outputs and not self.done[name].startswith(after[name]):
+            if name in self.outputs and not is_beginning(after[name], self.done[name]):
                 yield f"it left a wrong {name}"
             elif name not in self.outputs | {DEVICE} and name not in self.before:
                 yield f"it made {name}"
