@@ -10,12 +10,14 @@
 mod attempt;
 mod failures;
 mod loads;
+mod outputs;
 mod rest;
 mod runs;
 mod shuffle;
 mod tools;
 
 pub use failures::Failures;
+pub use outputs::scans_are_given_the_batch;
 pub use runs::Ran;
 pub use shuffle::{NoRun, run_turns};
 
