@@ -1,6 +1,7 @@
 pub mod Contents
 pub mod Ending
 pub mod Loaded
+pub mod Output
 pub mod Records
 pub mod Running
 pub mod Stopped

@@ -1,4 +1,5 @@
 pub mod Attempts
 pub mod Loading
+pub mod Output
 pub mod Records
 pub mod Runs

@@ -10,6 +10,7 @@
 mod attempt;
 mod failures;
 mod loads;
+mod outputs;
 mod rest;
 mod runs;
 mod shuffle;
@@ -17,6 +18,7 @@ mod tools;
 
 pub use failures::Failures;
 pub use loads::load;
+pub use outputs::scans_are_given_the_batch;
 pub use rest::finish;
 pub use runs::{Ran, is_good, outcome_by};
 pub use shuffle::{NoRun, run_turns};
