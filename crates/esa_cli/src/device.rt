@@ -1,8 +1,9 @@
-//! The top call with a device: every command on one thread, run among them.
+//! The top call with a device: every command on one thread, run and shuffle among them.
 
 ghost use Rattle.std.specs.Prelude.{◌≡◌, ℕ, List, [], map, string_bytes, Some, IfSome, IfNone};
-ghost use Rattle.esa_job.specs.declared.command.Command.TheVariants as command;
 ghost use Rattle.esa_command.specs.Stand.{stand};
+ghost use Rattle.esa_running.specs.declared.purpose.Purpose.{Purpose};
+ghost use Rattle.esa_running.specs.Purpose.{command_for};
 ghost use Rattle.esa_running.specs.RunEnded.{history_in};
 ghost use Rattle.esa_cli.specs.Call.{call_of};
 ghost use Rattle.esa_cli.specs.Device.{IsDeviceless, RunsBatch, RunsWithout};
@@ -15,7 +16,7 @@ use esa_floor::History;
 use esa_job::Command;
 use esa_outside::{Cabinet, Printer};
 use esa_refusal::Status;
-use esa_running::run;
+use esa_running::{Purpose, run};
 use std::alloc::Global;
 
 /// How a call ended, and what it leaves beside files and lines.
@@ -24,13 +25,13 @@ pub struct Ended<V: Device> {
     pub status: Status,
     /// The recorder, with all accesses that were made.
     pub recorder: Recorder<V>,
-    /// The turns of a run's attempts, and the owner's entries. There is none where no batch was loaded.
+    /// The turns of a shuffle's attempts, and the owner's entries. There is none where no batch was loaded.
     pub history: Option<History>,
 }
 
-/// The job of the command run, where the words ask for it.
-fn run_job(words: &[String]) -> Option<&str>
-    ensures run { IfSome result (λ name. call_of (map string_bytes words.now) ≡ Some (command.Run, name.now)) }
+/// What a batch is to be shuffled for, and the name of the job, where the words ask for that.
+fn batch_job(words: &[String]) -> Option<(Purpose, &str)>
+    ensures asked { IfSome result (λ job. call_of (map string_bytes words.now) ≡ Some (command_for job.0, job.1.now)) }
     ensures other { IfNone result (IsDeviceless (call_of (map string_bytes words.now))) }
 {
     match call_of(words) {
@@ -39,13 +40,19 @@ fn run_job(words: &[String]) -> Option<&str>
                 command: Command::Run,
                 job,
             },
-        ) => Some(job),
+        ) => Some((Purpose::Count, job)),
+        Some(
+            Call {
+                command: Command::Shuffle,
+                job,
+            },
+        ) => Some((Purpose::HandOn, job)),
         _ => None,
     }
 }
 
-/// Runs the command that the words after the program's name ask for, on one thread, as `esa_plain` does. Where that is the
-/// command run, it uses the device of the recorder.
+/// Runs the command that the words after the program's name ask for, on one thread, as `esa_plain` does. Where that is run or
+/// shuffle, it uses the device of the recorder.
 pub fn esa_with_device<K: Cabinet, P: Printer, V: Device>(
     alloc: Global,
     words: &[String],
@@ -54,8 +61,8 @@ pub fn esa_with_device<K: Cabinet, P: Printer, V: Device>(
     recorder: Recorder<V>,
 ) -> Ended<V>
     requires { recorder.trace ≡ [] }
-    ensures run { (name : List ℕ) → call_of (map string_bytes words.now) ≡ Some (command.Run, name)
-        → RunsBatch V.told V.faults (V.faults recorder.device) name
+    ensures batch { (purpose : Purpose) (name : List ℕ) → call_of (map string_bytes words.now) ≡ Some (command_for purpose, name)
+        → RunsBatch purpose V.told V.faults (V.faults recorder.device) name
         (stand K.told K.faults K.heard cabinet.old) (stand K.told K.faults K.heard cabinet.new)
         (stand P.told P.faults P.heard printer.old) (stand P.told P.faults P.heard printer.new) result.recorder (history_in result.history) result.status }
     ensures other { IsDeviceless (call_of (map string_bytes words.now))
@@ -63,9 +70,9 @@ pub fn esa_with_device<K: Cabinet, P: Printer, V: Device>(
         (stand K.told K.faults K.heard cabinet.old) (stand K.told K.faults K.heard cabinet.new)
         (stand P.told P.faults P.heard printer.old) (stand P.told P.faults P.heard printer.new) recorder result.recorder (history_in result.history) result.status }
 {
-    match run_job(words) {
-        Some(name) => {
-            let ended = run(alloc, cabinet, printer, recorder, name);
+    match batch_job(words) {
+        Some((purpose, name)) => {
+            let ended = run(alloc, purpose, cabinet, printer, recorder, name);
             Ended {
                 status: tell(ended.end, printer),
                 recorder: ended.recorder,
