@@ -1,5 +1,5 @@
 #!/usr/bin/env python3
-"""Hands submissions on as a forward file, in the place of a shuffler, which is not built yet.
+"""Hands submissions on as a forward file, in the place of a shuffler.
 
     demo/shares/hand_on.py FOLDER
 

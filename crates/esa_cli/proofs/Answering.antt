@@ -84,6 +84,7 @@ module _ {V : Type 0} (told : V → Option (List (List ℕ))) (faults : V → �
 
   call_alone : (call : Option (Command × List ℕ)) → IsDeviceless call → CallEnds (meaning_of told faults crews around.used) call around middle end → IsUntouched around.used × ¬ IsOfShuffle (status_in end)
   call_alone None plain ends = (ends.untouched, λ of_shuffle. subst IsOfShuffle (ap status_in ends.ends) of_shuffle)
+  call_alone (Some (command.Shuffle, name)) plain ends = absurd plain
   call_alone (Some (command.Run, name)) plain ends = absurd plain
   call_alone (Some call) plain ends = ends_alone around.used (steps_of crews call) around.cabinet around.cabinet_now around.printer middle end ends
 

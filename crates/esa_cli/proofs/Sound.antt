@@ -10,6 +10,8 @@ use Rattle.esa_refusal.specs.declared.status.Status.TheVariants as status
 use Rattle.esa_command.specs.Stand.{Stand}
 use Rattle.esa_command.specs.Step.{Step, Reads}
 use Rattle.esa_command.specs.Work.{Write, Work}
+use Rattle.esa_running.specs.declared.purpose.Purpose.{Purpose}
+use Rattle.esa_running.specs.declared.purpose.Purpose.TheVariants.{Count, HandOn}
 use Rattle.esa_running.specs.Run.{Asked}
 use Rattle.esa_running.specs.RunOwes.{RunOwes}
 use Rattle.esa_lists.specs.Files.{Files}
@@ -41,13 +43,13 @@ sound_alone faults used steps = record {
       (ap (λ c. c.faults) owes.as_asked.still, ap (λ r. faults r.device) owes.untouched.0);
 }
 
--- ---- run
+-- ---- run and shuffle
 
-module _ {V : Type 0} (told : V → Option (List (List ℕ))) (faults : V → ℕ) (device : ℕ) (now : Recorded V) (history : List ℕ) (asked : Asked) (taken acted : Stand Files) (work : Work) where
+module _ {V : Type 0} (purpose : Purpose) (told : V → Option (List (List ℕ))) (faults : V → ℕ) (device : ℕ) (now : Recorded V) (history : List ℕ) (asked : Asked) (taken acted : Stand Files) (work : Work) where
   counted_as : (made : Work) → work ≡ made → ActCounted taken.faults acted.faults device (faults now.device) made.writes made.ended → ActCounted taken.faults acted.faults device (faults now.device) work.writes work.ended
   counted_as made is counts = subst (λ w. ActCounted taken.faults acted.faults device (faults now.device) w.writes w.ended) (sym is) counts
 
-  run_counted : RunOwes told faults device now history asked taken acted work → ActCounted taken.faults acted.faults device (faults now.device) work.writes work.ended
+  run_counted : RunOwes purpose told faults device now history asked taken acted work → ActCounted taken.faults acted.faults device (faults now.device) work.writes work.ended
   run_counted owes = elim owes.ends [
     | inl run ↦ counted_as _ run.owed (run.ends.calm.1, run.ends.calm.0)
     | inr (inl over) ↦ counted_as _ over.owed (over.ends.calm.1, over.ends.calm.0)
@@ -60,8 +62,12 @@ module _ {V : Type 0} (told : V → Option (List (List ℕ))) (faults : V → �
 -- ---- each command
 
 pub sound_of : {V : Type 0} (told : V → Option (List (List ℕ))) (faults : V → ℕ) (crews : Bool) (used : Used V) (call : Command × List ℕ) → IsSound faults (meaning_of told faults crews used call) used
+sound_of told faults crews used (command.Shuffle, name) = record {
+  still = λ wanted taken acted work owes. owes.still;
+  counts = λ wanted taken acted work owes. run_counted HandOn told faults (faults used.recorder.device) used.recorder_now used.history wanted taken acted work owes;
+}
 sound_of told faults crews used (command.Run, name) = record {
   still = λ wanted taken acted work owes. owes.still;
-  counts = λ wanted taken acted work owes. run_counted told faults (faults used.recorder.device) used.recorder_now used.history wanted taken acted work owes;
+  counts = λ wanted taken acted work owes. run_counted Count told faults (faults used.recorder.device) used.recorder_now used.history wanted taken acted work owes;
 }
 sound_of told faults crews used call = sound_alone faults used (steps_of crews call)

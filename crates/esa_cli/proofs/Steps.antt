@@ -110,12 +110,14 @@ ends_as_meant used crews call cabinet cabinet_now printer printer_now end untouc
 -- the same in the words of what each command means
 pub ends_other : {V : Type 0} (told : V → Option (List (List ℕ))) (faults : V → ℕ) (used : Used V) (crews : Bool) (call : Command × List ℕ) (cabinet cabinet_now : Stand Files) (printer printer_now : Stand (List ℕ)) (end : End) → IsUntouched used
     → IsDeviceless (Some call) → Ends (steps_of crews call) cabinet cabinet_now printer printer_now end → EndsAs (meaning_of told faults crews used call) cabinet cabinet_now printer printer_now end
+ends_other told faults used crews (command.Shuffle, name) cabinet cabinet_now printer printer_now end untouched plain ends = absurd plain
 ends_other told faults used crews (command.Run, name) cabinet cabinet_now printer printer_now end untouched plain ends = absurd plain
 ends_other told faults used crews call cabinet cabinet_now printer printer_now end untouched plain ends = ends_as_meant used crews call cabinet cabinet_now printer printer_now end untouched ends
 
-pub deviceless : (c : Command) (name : List ℕ) → (c ≡ command.Run → ⊥) → IsDeviceless (Some (c, name))
-deviceless command.Run name not_run = not_run refl
-deviceless other name not_run = tt
+pub deviceless : (c : Command) (name : List ℕ) → (c ≡ command.Shuffle → ⊥) → (c ≡ command.Run → ⊥) → IsDeviceless (Some (c, name))
+deviceless command.Shuffle name not_shuffle not_run = not_shuffle refl
+deviceless command.Run name not_shuffle not_run = not_run refl
+deviceless other name not_shuffle not_run = tt
 
 -- ---- a command that isn't built
 
@@ -124,7 +126,7 @@ not_built crew (command.Gen, name) is read = cc
 not_built crew (command.Encode, name) is read = cc
 not_built crew (command.Batch, name) is read = cc
 not_built crew (command.Intake, name) is read = cc
-not_built crew (command.Shuffle, name) is read = refl
+not_built crew (command.Shuffle, name) is read = cc
 not_built crew (command.Run, name) is read = cc
 not_built crew (command.Relay, name) is read = refl
 not_built crew (command.Analyse, name) is read = cc
@@ -145,7 +147,7 @@ others_unbuilt command.Gen name plain g e b i a h u r p = absurd (g refl)
 others_unbuilt command.Encode name plain g e b i a h u r p = absurd (e refl)
 others_unbuilt command.Batch name plain g e b i a h u r p = absurd (b refl)
 others_unbuilt command.Intake name plain g e b i a h u r p = absurd (i refl)
-others_unbuilt command.Shuffle name plain g e b i a h u r p = refl
+others_unbuilt command.Shuffle name plain g e b i a h u r p = absurd plain
 others_unbuilt command.Run name plain g e b i a h u r p = absurd plain
 others_unbuilt command.Relay name plain g e b i a h u r p = refl
 others_unbuilt command.Analyse name plain g e b i a h u r p = absurd (a refl)

@@ -21,6 +21,7 @@ use Rattle.esa_analysing.specs.Analyse.{analyse_steps}
 use Rattle.esa_analysing.specs.Histogram.{histogram_steps}
 use Rattle.esa_analysing.specs.Recover.{recover_steps}
 use Rattle.esa_analysing.specs.Upgrade.{upgrade_steps}
+use Rattle.esa_running.specs.declared.purpose.Purpose.TheVariants.{Count, HandOn}
 use Rattle.esa_running.specs.Run.{Asked, run_steps}
 use Rattle.esa_running.specs.RunEnded.{IsIdle}
 use Rattle.esa_running.specs.RunOwes.{RunOwes}
@@ -88,6 +89,7 @@ steps_of crews (command, name) = λ read. refused (NotBuilt command)
 
 -- the words ask for nothing that needs a device
 abbrev pub IsDeviceless : Option (Command × List ℕ) → Type 0
+IsDeviceless (Some (command.Shuffle, name)) = ⊥
 IsDeviceless (Some (command.Run, name)) = ⊥
 IsDeviceless other = Unit {0}
 
@@ -110,6 +112,7 @@ is_built command.Gen = true
 is_built command.Encode = true
 is_built command.Batch = true
 is_built command.Intake = true
+is_built command.Shuffle = true
 is_built command.Run = true
 is_built command.Analyse = true
 is_built command.Histogram = true
@@ -119,8 +122,10 @@ is_built command.Plan = true
 is_built _ = false
 
 -- By what a device tells, and by its count of faults. Running workers aren't built: a run that asks for a crew is refused at its
--- field `mode`, whoever calls.
+-- field `mode`, whoever calls, and so is a shuffle.
 abbrev pub meaning_of : {V : Type 0} → (told : V → Option (List (List ℕ))) → (faults : V → ℕ) → (crews : Bool) → Used V → Command × List ℕ → Meaning
+meaning_of told faults crews used (command.Shuffle, name) =
+    shuffling used (run_steps command.Shuffle false name) (RunOwes HandOn told faults (faults used.recorder.device) used.recorder_now used.history)
 meaning_of told faults crews used (command.Run, name) =
-    shuffling used (run_steps command.Run false name) (RunOwes told faults (faults used.recorder.device) used.recorder_now used.history)
+    shuffling used (run_steps command.Run false name) (RunOwes Count told faults (faults used.recorder.device) used.recorder_now used.history)
 meaning_of told faults crews used call = alone used (steps_of crews call)

@@ -18,7 +18,7 @@ use esa_encoding::{encode, generate};
 use esa_job::Command;
 use esa_outside::{Cabinet, Printer};
 use esa_refusal::{End, Refusal, Status};
-use esa_running::{Ended, run};
+use esa_running::{Ended, Purpose, run};
 use esa_shuffling::{batch, plan};
 use std::alloc::Global;
 
@@ -69,7 +69,8 @@ pub(crate) fn run_call<S: Performs, K: Cabinet, P: Printer, V: Device>(
     ensures unbuilt { is_built call.entry.command ≡ false → result.end ≡ Stopped (status.Refused (NotBuilt call.entry.command)) }
 {
     match call.command {
-        Command::Run => run(alloc, cabinet, printer, recorder, call.job),
+        Command::Shuffle => run(alloc, Purpose::HandOn, cabinet, printer, recorder, call.job),
+        Command::Run => run(alloc, Purpose::Count, cabinet, printer, recorder, call.job),
         _ => Ended {
             end: run_alone(performs, alloc, cabinet, printer, call),
             recorder,

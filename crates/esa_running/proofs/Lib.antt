@@ -1,5 +1,7 @@
 mod BatchSteps
 mod Fitting
+mod Forwarded
+mod Joining
 mod Needed
 mod RanEnds
 mod Rooms
@@ -7,4 +9,5 @@ mod RunEnds
 mod ScanEnds
 mod SentLaws
 mod Shuffled
+mod Stages
 mod TurnsLaws

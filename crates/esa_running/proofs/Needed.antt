@@ -1,18 +1,22 @@
--- What a job has that shuffles a batch, what its drops file is refused for, and what is written where nothing was done.
-use Rattle.std.proofs.Common.{◌≡◌, inl, inr, suc, true, List, [], ◌∷◌, length, refl, ap, ◌∙◌, arith}
-use Rattle.std.specs.Prelude.{◌==◌}
+-- What a job has that shuffles a batch, and its keys, what its drops file is refused for, and what is written where nothing was done.
+use Rattle.std.proofs.Common.{◌≡◌, inl, inr, suc, true, false, List, [], ◌∷◌, length, refl, ap, ◌∙◌, arith}
+use Rattle.std.specs.Prelude.{◌==◌, IsSome}
 use Rattle.std.proofs.lemmas.Bool.Decides.{nat_tests}
+use Rattle.esa_job.specs.Keys.{needs_key, key_of}
 use Rattle.esa_job.specs.Table.{need_of}
 use Rattle.esa_job.specs.declared.command.Command.{Command}
 use Rattle.esa_job.specs.declared.command.Command.TheVariants.{Run, Shuffle}
 use Rattle.esa_job.specs.declared.field.JobField.{JobField}
 use Rattle.esa_job.specs.declared.field.Need.TheVariants.{Needed}
+use Rattle.esa_job.specs.declared.keys.KeyField.{KeyField}
 use Rattle.esa_job.specs.declared.drops.DropsRefused.{DropsRefused}
 use Rattle.esa_job.specs.declared.drops.DropsRefused.TheVariants.{Line}
 use Rattle.esa_refusal.specs.Refusal.{IsOfInput}
 use Rattle.esa_command.specs.Work.{Write}
 use Rattle.esa_running.specs.Run.{Shuffles, drops_refusal}
 use Rattle.esa_running.specs.RunOwes.{where_made}
+use Rattle.esa_running.specs.RunTaken.{IsTaken}
+use Rattle.esa_running.specs.declared.input.RunInput.{RunInput}
 
 pub needs : (field : JobField) (own command : Command) → own ≡ command → Shuffles command → need_of field Run ≡ Needed → need_of field Shuffle ≡ Needed → need_of field own ≡ Needed
 needs field own command same shuffles run shuffle =
@@ -28,3 +32,11 @@ of_drops (Line line) = tt
 pub none_made : {A : Type 0} (xs : List A) (writes : List Write) → true ≡ (length xs == 0) → where_made xs writes ≡ []
 none_made [] writes none = refl
 none_made (x ∷ xs) writes none = let empty : suc (length xs) ≡ 0 = grind (arith, nat_tests) in absurd (omega (arith, empty))
+
+-- the keys that both need
+pub has_key : (input : RunInput) → IsTaken input → (key : KeyField) → needs_key Run false key ≡ true → needs_key Shuffle false key ≡ true → IsSome (key_of input.keys key)
+has_key input taken key run shuffle =
+    taken.keys key (elim taken.shuffles [
+      | inl is ↦ ap (λ command. needs_key command false key) is ∙ run
+      | inr is ↦ ap (λ command. needs_key command false key) is ∙ shuffle
+    ])

@@ -1,87 +1,77 @@
--- What a run owes whose shuffle failed, by its outcome.
-use Rattle.std.proofs.Common.{◌≡◌, inl, inr, ℕ, ◌≤◌, List, length, Option, refl, sym, ap, subst, arith}
-use Rattle.std.proofs.lemmas.List.{length-map}
+-- What is owed by the outcome of a shuffle, and that what tells of it fits its files.
+use Rattle.std.proofs.Common.{◌≡◌, ℕ, ◌+◌, ◌≤◌, List, length, refl, sym, ap, subst, arith}
+use Rattle.std.proofs.lemmas.List.{length-map, length-take}
 use Rattle.std.proofs.lemmas.List.FromFn.{length-range_with_len}
-use Rattle.esa_device.specs.Recording.{Recorded}
 use Rattle.esa_ending.specs.Endings.{Overflows}
-use Rattle.esa_ending.specs.Seen.{Seen, verdict_in}
-use Rattle.esa_ending.proofs.FrontLaws.{whole, load-front}
+use Rattle.esa_ending.specs.Seen.{Seen, stored, verdict_in}
+use Rattle.esa_ending.proofs.FrontLaws.{whole, joined-front, load-front}
 use Rattle.esa_floor.specs.declared.turn.Outcome.{Outcome}
 use Rattle.esa_floor.specs.declared.turn.Outcome.TheVariants as outcome
-use Rattle.esa_model.specs.Forecast.{made}
 use Rattle.esa_outside.specs.declared.Role.TheVariants as role
-use Rattle.esa_params.specs.Sizes.{Sizes, below}
+use Rattle.esa_params.specs.Sizes.{ArePlanned, below}
 use Rattle.esa_spec.specs.Fronts.{Begins}
-use Rattle.esa_spec.specs.Traces.{trace}
+use Rattle.esa_spec.specs.Traces.{good_attempt, scans, shuffle_trace, trace}
 use Rattle.esa_spec.specs.declared.event.Verdict.{Verdict}
 use Rattle.esa_refusal.specs.declared.failures.Failures.{Failures}
 use Rattle.esa_refusal.specs.declared.status.DeviceAt.TheVariants.{Slot as AtSlot}
 use Rattle.esa_refusal.specs.declared.status.Status.TheVariants as status
 use Rattle.esa_refusal.specs.Failures.{verdicts_of}
-use Rattle.esa_shuffle.specs.Runs.{EndsRun, HasOutcome, IsShuffled, opens_last, seen_of}
+use Rattle.esa_shuffle.specs.Runs.{IsShuffled}
+use Rattle.esa_shuffling.proofs.Turning.{made_few}
 use Rattle.esa_command.specs.Doing.{failed_work}
 use Rattle.esa_running.specs.Run.{Asked}
-use Rattle.esa_running.specs.RunOwes.{sizes_in, turns_in, block_keys, records_owed, where_made, HasEnded}
+use Rattle.esa_running.specs.RunOwes.{EndsShuffle, records_owed, where_made, HasOverflowed, HasFailedAt, IsTamperedAt, IsUnloaded}
+use Rattle.esa_running.specs.RunWork.{FitFiles}
 use Rattle.esa_running.specs.StoredTurns.{IsHistory}
+use Rattle.esa_running.specs.Wanted.{sizes_in, turns_in}
+use Rattle.esa_running.proofs.Fitting.{front_fits}
 
-module _ {V : Type 0} (told : V → Option (List (List ℕ))) (faults : V → ℕ) (asked : Asked) (device batch now : ℕ) (history : List ℕ) (recorder : Recorded V) (failures : List Verdict) (p : Sizes) (same : p ≡ sizes_in asked) where
-  abbrev seen : Seen
-  seen = seen_of faults device batch recorder history now
-
-  -- the run ended so
-  abbrev pub Ended : Sizes → Outcome → Type 0
-  Ended p o = EndsRun p asked.draws (made p asked.draws asked.turns) seen (opens_last p (block_keys asked) recorder.last) failures o
-
-  here : (o : Outcome) → Ended p o → HasOutcome (sizes_in asked) asked.draws (turns_in asked) seen (opens_last (sizes_in asked) (block_keys asked) recorder.last) failures o
-  here o e = (subst (λ p. Ended p o) same e).outcome
+module _ (asked : Asked) (seen : Seen) (last : List ℕ) (failures : List Verdict) where
+  -- the shuffle ended so
+  abbrev pub Ended : Outcome → Type 0
+  Ended = EndsShuffle asked seen last failures
 
   -- ---- what is owed
 
-  pub shuffled_here : (a : ℕ) → Ended p (outcome.Shuffled a) → IsShuffled p asked.draws (turns_in asked) seen a
-  shuffled_here a e = subst (λ q. IsShuffled p asked.draws (made q asked.draws asked.turns) seen a) same e.outcome
+  pub overflowed : (kept : Failures) → verdicts_of kept ≡ failures → Ended outcome.Overflow → HasOverflowed asked seen (failed_work (status.Overflow kept) (records_owed asked seen))
+  overflowed kept is e = record { failures = kept; ends = subst (Overflows (sizes_in asked) asked.draws (turns_in asked) seen) (sym is) e.outcome; owed = refl }
 
-  pub overflow_ends : (kept : Failures) → verdicts_of kept ≡ failures → Ended p outcome.Overflow → HasEnded told faults asked seen recorder (failed_work (status.Overflow kept) (records_owed asked seen))
-  overflow_ends kept is e =
-      inr (inl (record { failures = kept; ends = subst (Overflows (sizes_in asked) asked.draws (turns_in asked) seen) (sym is) (here outcome.Overflow e); owed = refl }))
+  pub failed_at : (number : ℕ) → Ended (outcome.DeviceFault number) → HasFailedAt asked seen (failed_work (status.DeviceFault (AtSlot number)) (records_owed asked seen))
+  failed_at number e = record { number = number; ends = e.outcome; owed = refl }
 
-  pub device_ends : (number : ℕ) → Ended p (outcome.DeviceFault number) → HasEnded told faults asked seen recorder (failed_work (status.DeviceFault (AtSlot number)) (records_owed asked seen))
-  device_ends number e = inr (inr (inl (record { number = number; ends = here (outcome.DeviceFault number) e; owed = refl })))
+  pub tampered_at : (number : ℕ) → Ended (outcome.Tampered number) → IsTamperedAt asked seen last (failed_work (status.Tampered number) (records_owed asked seen))
+  tampered_at number e = record { number = number; ends = e.outcome; owed = refl }
 
-  pub tampered_ends : (number : ℕ) → Ended p (outcome.Tampered number) → HasEnded told faults asked seen recorder (failed_work (status.Tampered number) (records_owed asked seen))
-  tampered_ends number e = inr (inr (inr (inl (record { number = number; ends = here (outcome.Tampered number) e; owed = refl }))))
+  pub unloaded : Ended outcome.BatchFailed → IsUnloaded asked seen (failed_work (status.OutsideFault role.Input) (where_made seen.trace (records_owed asked seen)))
+  unloaded e = record { ends = e.outcome; owed = refl }
 
-  pub unloaded_ends : Ended p outcome.BatchFailed → HasEnded told faults asked seen recorder (failed_work (status.OutsideFault role.Input) (where_made recorder.trace (records_owed asked seen)))
-  unloaded_ends e = inr (inr (inr (inr (inl (record { ends = here outcome.BatchFailed e; owed = refl })))))
+  -- no more attempts have failed than are planned
+  pub few_failures : Ended outcome.Overflow → length failures ≤ (sizes_in asked).attempts
+  few_failures e =
+      omega (arith, ap length e.outcome.verdicts, length-map (below (sizes_in asked).attempts) (verdict_in (sizes_in asked) asked.draws (turns_in asked)), length-range_with_len 0 (sizes_in asked).attempts)
 
-  -- ---- the accesses are a front of all, and the history is one
+  -- ---- what tells of it fits its files
 
-  abbrev All : Type 0
-  All = Begins recorder.trace (trace p asked.draws (made p asked.draws asked.turns))
+  -- the accesses of a shuffle that succeeded are a front of those of its stored turns
+  stored_front : (a : ℕ) → IsShuffled (sizes_in asked) asked.draws (turns_in asked) seen a → Begins seen.trace (trace (sizes_in asked) asked.draws (stored (sizes_in asked) seen))
+  stored_front a s =
+      let p = sizes_in asked in
+      let hs = stored p seen in
+      subst (λ xs. Begins xs (trace p asked.draws hs)) (sym s.made) (joined-front (shuffle_trace p asked.draws hs) (scans p (good_attempt p asked.draws 0 hs)))
 
-  pub overflow_front : Ended p outcome.Overflow → All
-  overflow_front e = whole recorder.trace (trace p asked.draws (made p asked.draws asked.turns)) e.outcome.whole
+  few_stored : (a : ℕ) → IsShuffled (sizes_in asked) asked.draws (turns_in asked) seen a → length (stored (sizes_in asked) seen) ≤ (sizes_in asked).attempts
+  few_stored a s = omega (arith, ap length s.turns, length-take (a + 1) (turns_in asked), s.planned)
 
-  pub overflow_history : Ended p outcome.Overflow → IsHistory p.workers history
-  overflow_history e = e.outcome.history
+  module _ (planned : ArePlanned (sizes_in asked)) where
+    fits_by : Begins seen.trace (trace (sizes_in asked) asked.draws (turns_in asked)) → IsHistory (sizes_in asked).workers seen.history → FitFiles (sizes_in asked).workers seen.trace seen.history
+    fits_by front turns =
+        front_fits (sizes_in asked) asked.draws (turns_in asked) seen.trace seen.history planned (made_few (sizes_in asked) asked.draws asked.turns) front turns
 
-  pub overflow_few : Ended p outcome.Overflow → length failures ≤ p.attempts
-  overflow_few e =
-      omega (arith, ap length e.outcome.verdicts, length-map (below p.attempts) (verdict_in p asked.draws (made p asked.draws asked.turns)), length-range_with_len 0 p.attempts)
-
-  pub device_front : (number : ℕ) → Ended p (outcome.DeviceFault number) → All
-  device_front number e = e.outcome.cut.front
-
-  pub device_history : (number : ℕ) → Ended p (outcome.DeviceFault number) → IsHistory p.workers history
-  device_history number e = e.outcome.cut.history
-
-  pub tampered_front : (number : ℕ) → Ended p (outcome.Tampered number) → All
-  tampered_front number e = e.outcome.cut.front
-
-  pub tampered_history : (number : ℕ) → Ended p (outcome.Tampered number) → IsHistory p.workers history
-  tampered_history number e = e.outcome.cut.history
-
-  pub unloaded_front : Ended p outcome.BatchFailed → All
-  unloaded_front e = load-front p asked.draws (made p asked.draws asked.turns) (length recorder.trace) recorder.trace e.outcome.there e.outcome.written
-
-  pub unloaded_history : Ended p outcome.BatchFailed → IsHistory p.workers history
-  unloaded_history e = e.outcome.history
+    pub ended_fits : (o : Outcome) → Ended o → FitFiles (sizes_in asked).workers seen.trace seen.history
+    ended_fits (outcome.Shuffled a) e =
+        front_fits (sizes_in asked) asked.draws (stored (sizes_in asked) seen) seen.trace seen.history planned (few_stored a e.outcome) (stored_front a e.outcome) e.outcome.history
+    ended_fits outcome.Overflow e = fits_by (whole seen.trace (trace (sizes_in asked) asked.draws (turns_in asked)) e.outcome.whole) e.outcome.history
+    ended_fits (outcome.DeviceFault number) e = fits_by e.outcome.cut.front e.outcome.cut.history
+    ended_fits (outcome.Tampered number) e = fits_by e.outcome.cut.front e.outcome.cut.history
+    ended_fits outcome.BatchFailed e =
+        fits_by (load-front (sizes_in asked) asked.draws (turns_in asked) (length seen.trace) seen.trace e.outcome.there e.outcome.written) e.outcome.history

@@ -1,9 +1,8 @@
--- How a run ends whose shuffle succeeded, by what the scans of its output answer.
+-- How it ends where a shuffle succeeded, by what the scans of its output answer.
 use Rattle.std.proofs.Common.{◌≡◌, ◌⊎◌, inl, inr, ℕ, ◌+◌, ◌<◌, List, [], ◌++◌, Bool, Option, Err, refl, sym, ap, subst, ◌∙◌}
 use Rattle.esa_device.specs.Recording.{Recorded}
 use Rattle.esa_ending.specs.Endings.{Succeeds, DeviceFails, BlockIsTampered}
 use Rattle.esa_ending.specs.Seen.{Seen, stored}
-use Rattle.esa_ending.proofs.FrontLaws.{whole}
 use Rattle.esa_envelope.specs.declared.keys.Keys.{Keys}
 use Rattle.esa_outside.specs.Cause.{Rose}
 use Rattle.esa_params.specs.Sizes.{Sizes, size}
@@ -12,8 +11,7 @@ use Rattle.esa_params.specs.declared.slot.Access.{Access}
 use Rattle.esa_params.specs.declared.slot.Region.TheVariants.{Output}
 use Rattle.esa_params.specs.declared.slot.Slot.{Slot}
 use Rattle.esa_spec.specs.Draws.{Draw}
-use Rattle.esa_spec.specs.Fronts.{Begins}
-use Rattle.esa_spec.specs.Traces.{scan, shuffle_trace, trace}
+use Rattle.esa_spec.specs.Traces.{scan, shuffle_trace}
 use Rattle.esa_scans.specs.Forwarded.{HasForwarded}
 use Rattle.esa_scans.specs.Scans.{FailsAt, reads}
 use Rattle.esa_vault.specs.Seals.{opens}
@@ -56,11 +54,3 @@ module _ {V : Type 0} (told : V → Option (List (List ℕ))) (faults : V → �
     | inl f ↦ ends_by T keys [] fails.0 (inl refl) f.inside (f.trace ∙ ap (λ xs. xs ++ ([] ++ reads p a (fails.0 + 1))) s.made) fault f.answer
     | inr f ↦ ends_by T keys (scan p a) fails.0 (inr refl) f.inside (f.trace ∙ ap (λ xs. xs ++ (scan p a ++ reads p a (fails.0 + 1))) s.made) fault f.answer
   ]
-
-  -- the accesses are a front of all
-  pub front_at : (keys : Keys) (fault : VaultFault) → EndsAt keys fault → Begins new.trace (trace p ds hs)
-  front_at keys (Device number) ends = ends.cut.front
-  front_at keys (Tampered number) ends = ends.cut.front
-
-  pub front_of_success : Succeeds p ds hs seen a → Begins new.trace (trace p ds hs)
-  front_of_success ends = whole new.trace (trace p ds hs) ends.whole

@@ -1,7 +1,10 @@
-pub mod Counting
+pub mod Forwarding
+pub mod Outlets
+pub mod Purpose
 pub mod Run
 pub mod RunEnded
 pub mod RunOwes
 pub mod RunTaken
 pub mod RunWork
 pub mod StoredTurns
+pub mod Wanted

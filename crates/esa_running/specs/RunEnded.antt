@@ -1,4 +1,4 @@
--- What a run leaves beside files and lines.
+-- What run and shuffle leave beside files and lines.
 use Rattle.std.specs.Prelude.{◌≡◌, ℕ, List, [], Option, Some, None}
 use Rattle.esa_lists.specs.Files.{Files}
 use Rattle.esa_device.specs.Recording.{Recorded}
@@ -7,10 +7,11 @@ use Rattle.esa_refusal.specs.declared.status.End.{End}
 use Rattle.esa_command.specs.Settled.{Settles}
 use Rattle.esa_command.specs.Stand.{Stand}
 use Rattle.esa_command.specs.Work.{Work}
+use Rattle.esa_running.specs.declared.purpose.Purpose.{Purpose}
 use Rattle.esa_running.specs.Run.{Asked}
 use Rattle.esa_running.specs.RunOwes.{HasEnded, RunOwes}
 
--- the history of a run: none where no batch was loaded
+-- the history: none where no batch was loaded
 abbrev pub history_in : Option (List ℕ) → List ℕ
 history_in None = []
 history_in (Some history) = history
@@ -21,14 +22,14 @@ pub record IsIdle {V : Type 0} (recorder : Recorded V) (history : List ℕ) : Ty
   pub turns : history ≡ []
 
 -- the shuffle ended so, and the work that is owed then is done
-pub record HasWorked {V : Type 0} (told : V → Option (List (List ℕ))) (faults : V → ℕ) (asked : Asked) (seen : Seen) (recorder : Recorded V) (cabinet cabinet_now : Stand Files) (printer printer_now : Stand (List ℕ)) (end : End) : Type 0 where
+pub record HasWorked {V : Type 0} (purpose : Purpose) (told : V → Option (List (List ℕ))) (faults : V → ℕ) (asked : Asked) (seen : Seen) (recorder : Recorded V) (cabinet cabinet_now : Stand Files) (printer printer_now : Stand (List ℕ)) (end : End) : Type 0 where
   pub work : Work
-  pub ends : HasEnded told faults asked seen recorder work
+  pub ends : HasEnded purpose told faults asked seen recorder work
   pub settles : Settles work cabinet cabinet_now printer printer_now end
 
 -- what was asked for was acted on, and the work that is owed then is done
-pub record HasActed {V : Type 0} (told : V → Option (List (List ℕ))) (faults : V → ℕ) (before : ℕ) (asked : Asked) (cabinet cabinet_now : Stand Files) (printer printer_now : Stand (List ℕ)) (recorder : Recorded V) (history : List ℕ) (end : End) : Type 0 where
+pub record HasActed {V : Type 0} (purpose : Purpose) (told : V → Option (List (List ℕ))) (faults : V → ℕ) (before : ℕ) (asked : Asked) (cabinet cabinet_now : Stand Files) (printer printer_now : Stand (List ℕ)) (recorder : Recorded V) (history : List ℕ) (end : End) : Type 0 where
   pub work : Work
   pub acted : Stand Files
-  pub owes : RunOwes told faults before recorder history asked cabinet acted work
+  pub owes : RunOwes purpose told faults before recorder history asked cabinet acted work
   pub settles : Settles work acted cabinet_now printer printer_now end

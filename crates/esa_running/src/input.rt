@@ -1,23 +1,21 @@
 //! What run and shuffle take in.
 
-ghost use Rattle.std.specs.Prelude.{◌≡◌, ◌≤◌, true, false, IsSome, IfOk};
-ghost use Rattle.esa_coins.specs.AnyCoins.{any_plan};
-ghost use Rattle.esa_job.specs.Keys.{needs_key, key_of};
+ghost use Rattle.std.specs.Prelude.{◌≡◌, IfOk};
 ghost use Rattle.esa_job.specs.Seen.{request_of};
-ghost use Rattle.esa_model.specs.Turns.{AreWorkers};
 ghost use Rattle.esa_command.specs.Judged.{Judged};
 ghost use Rattle.esa_command.specs.Stand.{stand};
 ghost use Rattle.esa_command.specs.Taking.{name_of};
-ghost use Rattle.esa_running.specs.Run.{Shuffles, IsInside, sizes_with, run_steps};
-ghost use Rattle.esa_running.specs.RunTaken.{run_taken};
+ghost use Rattle.esa_running.specs.Run.{Shuffles, IsInside, run_steps};
+ghost use Rattle.esa_running.specs.RunTaken.{IsTaken, run_taken};
 
 use crate::taking::{plan_with, take_batch, take_drops};
 use esa_batcher::Scanned;
 use esa_coins::AnyCoins;
 use esa_command::{take_job, take_keys};
-use esa_job::{Command, Drops, Job, JobField, KeyField, KeyRing};
+use esa_job::{Command, Drops, Job, JobField, KeyRing};
 use esa_model::Turns;
 use esa_outside::Cabinet;
+use esa_params::Plan;
 use esa_refusal::Stop;
 use esa_shuffling::{take_coins, take_turns};
 use std::alloc::Global;
@@ -31,6 +29,8 @@ pub struct RunInput {
     pub turns: Turns,
     pub batch: Scanned,
     pub coins: AnyCoins,
+    /// The plan of the shuffle, by the parameters of the job and what the header of the batch says.
+    pub plan: Plan,
 }
 
 /// Takes in the job of a shuffle, its keys, its drops, its turns, its batch and its coins, in this order. Of the batch
@@ -45,19 +45,17 @@ pub fn take_run<K: Cabinet>(
     requires { Shuffles command }
     ensures judged { Judged 0 6 run_taken (run_steps command crew_allowed name.now)
         (stand K.told K.faults K.heard cabinet.old) (stand K.told K.faults K.heard cabinet.new) result }
-    ensures keys { IfOk result (λ input. (key : KeyField) → needs_key command false key ≡ true → IsSome (key_of input.keys key)) }
+    ensures taken { IfOk result IsTaken }
     ensures command { IfOk result (λ input. (request_of input.job).command ≡ command) }
-    ensures number { IfOk result (λ input. (1 ≤ input.batch.count) × (input.batch.count ≤ 262144)) }
-    ensures workers { IfOk result (λ input. AreWorkers (sizes_with (request_of input.job) input.batch).workers input.turns) }
     ensures inside { IfOk result (λ input. IsInside (K.told cabinet.new) (name_of (request_of input.job) JobField.Input) input.batch) }
-    ensures plan { IfOk result (λ input. any_plan input.coins ≡ sizes_with (request_of input.job) input.batch) }
 {
     let job = take_job(alloc, cabinet, command, crew_allowed, name)?;
     let keys = take_keys(alloc, cabinet, command, false, &job)?;
     let drops = take_drops(alloc, cabinet, command, &job)?;
     let turns = take_turns(alloc, cabinet, command, &job)?;
     let batch = take_batch(cabinet, command, &job)?;
-    let coins = take_coins(alloc, cabinet, command, &job, plan_with(&job, &batch))?;
+    let plan = plan_with(&job, &batch);
+    let coins = take_coins(alloc, cabinet, command, &job, plan)?;
     Ok(RunInput {
         job,
         keys,
@@ -65,5 +63,6 @@ pub fn take_run<K: Cabinet>(
         turns,
         batch,
         coins,
+        plan,
     })
 }

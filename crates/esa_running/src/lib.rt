@@ -1,17 +1,18 @@
-//! The command run: what it takes in, its shuffle, and the work that it owes by how that ended.
+//! The commands run and shuffle: what they take in, their shuffle, and the work that they owe by how that ended.
 #![tactic(auto)]
 
-mod counting;
 mod ending;
+mod forwarding;
 mod input;
+mod keys;
+mod outlet;
 mod outputs;
+mod purpose;
 mod run_command;
 mod stored_turns;
 mod taking;
 mod working;
 
 pub use input::{RunInput, take_run};
+pub use purpose::Purpose;
 pub use run_command::{Ended, run};
-
-#[cfg(test)]
-mod tests;

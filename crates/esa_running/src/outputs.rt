@@ -1,22 +1,25 @@
-//! What run leaves: its files and its lines.
+//! What run and shuffle leave: their files and their lines.
 
-ghost use Rattle.std.specs.Prelude.{◌≡◌, ◌<◌, ◌≤◌, ◌^◌, ◌+◌, ◌++◌, ◌∷◌, [], All, List, length, option_map};
+ghost use Rattle.std.specs.Prelude.{◌≡◌, ◌<◌, ◌≤◌, ◌^◌, ◌+◌, ◌++◌, ◌∷◌, All, List, length, option_map};
 ghost use Rattle.esa_lists.specs.Files.{Files};
-ghost use Rattle.esa_job.specs.Seen.{request_of, Needs};
+ghost use Rattle.esa_refusal.specs.declared.source.Sink.TheVariants.{Output};
 ghost use Rattle.esa_refusal.specs.Refusal.{numbered};
 ghost use Rattle.esa_spec.specs.Histories.{lists};
-ghost use Rattle.esa_command.specs.Doing.{WritesAll, failed_work};
+ghost use Rattle.esa_command.specs.Doing.{WritesIt, WritesAll, failed_work};
 ghost use Rattle.esa_command.specs.Settled.{Settles};
 ghost use Rattle.esa_command.specs.Stand.{Stand, stand};
 ghost use Rattle.esa_command.specs.Work.{Write};
 ghost use Rattle.esa_shuffling.specs.Plan.{trace_writes};
-ghost use Rattle.esa_running.specs.RunWork.{turns_writes, record_writes, run_writes, run_text, shuffled_text, holds_text, well_work};
+ghost use Rattle.esa_running.specs.RunTaken.{IsTaken, run_taken};
+ghost use Rattle.esa_running.specs.RunWork.{turns_writes, records_of, FitFiles, shuffled_text, holds_text, made_text, well_work};
 ghost use Rattle.esa_running.specs.StoredTurns.{IsHistory};
+ghost use Rattle.esa_running.specs.Wanted.{sizes_in};
 
+use crate::input::RunInput;
 use crate::stored_turns::write_turns;
 use esa_analyser::Analysis;
 use esa_command::{print_line, settle, settle_failed};
-use esa_job::{Job, JobField};
+use esa_device::{Device, Recorder};
 use esa_outside::{Cabinet, Failed, Printer};
 use esa_params::Access;
 use esa_refusal::{End, Line, Sink, Status};
@@ -63,41 +66,42 @@ fn save_turns<K: Cabinet>(
 }
 
 /// Writes how a shuffle went, where the job names files for it: its accesses, and then its turns.
-fn save_records<K: Cabinet>(
+fn save_records<K: Cabinet, V: Device>(
     cabinet: &mut K,
-    job: &Job,
-    accesses: &[Access],
+    recorder: &Recorder<V>,
+    input: &RunInput,
     history: &[u32],
-    owner: u32,
 ) -> Result<(), Sink>
-    requires attempts { All (λ access. access.attempt < 256) accesses.now }
-    requires number { length accesses.now < 2 ^ 32 }
-    requires history { IsHistory owner history.now }
-    ensures { WritesAll (record_writes (request_of job.now) accesses.now (lists owner history.now))
+    requires taken { IsTaken input.now }
+    requires fits { FitFiles (sizes_in (run_taken input.now)).workers recorder.now.trace history.now }
+    ensures { WritesAll (records_of (run_taken input.now) recorder.now.trace history.now)
         (stand K.told K.faults K.heard cabinet.old) (stand K.told K.faults K.heard cabinet.new) result }
 {
-    save_trace(cabinet, job.trace(), accesses)?;
-    save_turns(cabinet, job.turns_out(), history, owner)
+    save_trace(cabinet, input.job.trace(), recorder.trace())?;
+    save_turns(
+        cabinet,
+        input.job.turns_out(),
+        history,
+        input.plan.workers(),
+    )
 }
 
-/// Writes a database, and then how its shuffle went, where the job names files for that.
-fn save_run<K: Cabinet>(
+/// Writes how a shuffle went behind its output, by how that was written.
+fn save_behind<K: Cabinet, V: Device>(
     cabinet: &mut K,
-    job: &Job,
-    analysis: &Analysis,
-    accesses: &[Access],
+    recorder: &Recorder<V>,
+    input: &RunInput,
     history: &[u32],
-    owner: u32,
+    saved: Result<(), Failed>,
 ) -> Result<(), Sink>
-    requires output { Needs job.now JobField.Output }
-    requires attempts { All (λ access. access.attempt < 256) accesses.now }
-    requires number { length accesses.now < 2 ^ 32 }
-    requires history { IsHistory owner history.now }
-    ensures { WritesAll (run_writes (request_of job.now) analysis.now.form analysis.now.database accesses.now (lists owner history.now))
-        (stand K.told K.faults K.heard cabinet.old) (stand K.told K.faults K.heard cabinet.new) result }
+    requires taken { IsTaken input.now }
+    requires fits { FitFiles (sizes_in (run_taken input.now)).workers recorder.now.trace history.now }
+    ensures { (before : Stand Files) (output : Write) → output.sink ≡ Output
+        → WritesIt output before (stand K.told K.faults K.heard cabinet.old) saved
+        → WritesAll (output ∷ records_of (run_taken input.now) recorder.now.trace history.now) before (stand K.told K.faults K.heard cabinet.new) result }
 {
-    match analysis.write(cabinet, job.output()) {
-        Ok(()) => save_records(cabinet, job, accesses, history, owner),
+    match saved {
+        Ok(()) => save_records(cabinet, recorder, input, history),
         Err(Failed) => Err(Sink::Output),
     }
 }
@@ -125,12 +129,27 @@ fn shuffled_line(attempt: u32, records: u32, forwarded: u32) -> Line
 }
 
 /// The line of a run that succeeded.
-fn run_line(attempt: u32, records: u32, forwarded: u32, analysis: &Analysis, accesses: u64) -> Line
-    ensures { result ≡ run_text attempt records forwarded analysis.now.database accesses }
+pub(crate) fn run_line(
+    attempt: u32,
+    records: u32,
+    forwarded: u32,
+    analysis: &Analysis,
+    accesses: u64,
+) -> Line
+    ensures { result ≡ shuffled_text attempt records forwarded ++ (holds_text analysis.now.database ++ made_text accesses) }
 {
     let mut line = shuffled_line(attempt, records, forwarded);
     add(&mut line, " rows ", u64::from(analysis.rows()));
     add(&mut line, " unopened ", u64::from(analysis.unopened()));
+    add(&mut line, " accesses ", accesses);
+    line
+}
+
+/// The line of a shuffle that succeeded, and hands on what it forwards.
+pub(crate) fn handed_on_line(attempt: u32, records: u32, forwarded: u32, accesses: u64) -> Line
+    ensures { result ≡ shuffled_text attempt records forwarded ++ made_text accesses }
+{
+    let mut line = shuffled_line(attempt, records, forwarded);
     add(&mut line, " accesses ", accesses);
     line
 }
@@ -147,67 +166,43 @@ fn settle_well<P: Printer>(saved: Result<(), Sink>, printer: &mut P, line: &Line
     }
 }
 
-/// What a run has done that succeeded.
-#[derive(Drop)]
-pub(crate) struct Success<'a> {
-    /// The good attempt.
-    pub attempt: u32,
-    /// The number of the batch's records.
-    pub records: u32,
-    /// How many of them are forwarded.
-    pub forwarded: u32,
-    /// The counts of their values.
-    pub analysis: &'a Analysis,
-}
-
-/// Does the work of a run that succeeded: it writes its files, and prints its line.
-pub(crate) fn work_run<K: Cabinet, P: Printer>(
+/// Does what is left of a shuffle that succeeded, by how its output was written: it writes how the shuffle went, and prints
+/// its line.
+pub(crate) fn work_saved<K: Cabinet, P: Printer, V: Device>(
     cabinet: &mut K,
     printer: &mut P,
-    job: &Job,
-    done: &Success<'_>,
-    accesses: &[Access],
+    recorder: &Recorder<V>,
+    input: &RunInput,
     history: &[u32],
-    owner: u32,
+    saved: Result<(), Failed>,
+    line: &Line,
 ) -> End
-    requires output { Needs job.now JobField.Output }
-    requires attempts { All (λ access. access.attempt < 256) accesses.now }
-    requires number { length accesses.now < 2 ^ 32 }
-    requires history { IsHistory owner history.now }
-    ensures { Settles (well_work
-        (run_writes (request_of job.now) done.now.analysis.now.form done.now.analysis.now.database accesses.now (lists owner history.now))
-        (run_text done.now.attempt done.now.records done.now.forwarded done.now.analysis.now.database (length accesses.now)))
-        (stand K.told K.faults K.heard cabinet.old) (stand K.told K.faults K.heard cabinet.new)
+    requires taken { IsTaken input.now }
+    requires fits { FitFiles (sizes_in (run_taken input.now)).workers recorder.now.trace history.now }
+    ensures { (before : Stand Files) (output : Write) → output.sink ≡ Output
+        → WritesIt output before (stand K.told K.faults K.heard cabinet.old) saved
+        → Settles (well_work (output ∷ records_of (run_taken input.now) recorder.now.trace history.now) line.now) before (stand K.told K.faults K.heard cabinet.new)
         (stand P.told P.faults P.heard printer.old) (stand P.told P.faults P.heard printer.new) result }
 {
-    let saved = save_run(cabinet, job, done.analysis, accesses, history, owner);
-    let line = run_line(
-        done.attempt,
-        done.records,
-        done.forwarded,
-        done.analysis,
-        accesses.len() as u64,
-    );
-    settle_well(saved, printer, &line)
+    let saved = save_behind(cabinet, recorder, input, history, saved);
+    settle_well(saved, printer, line)
 }
 
 /// Does what is left of a shuffle that failed: it writes how it went, and prints the lines of its status.
-pub(crate) fn work_failed<K: Cabinet, P: Printer>(
+pub(crate) fn work_failed<K: Cabinet, P: Printer, V: Device>(
     cabinet: &mut K,
     printer: &mut P,
-    job: &Job,
-    status: Status,
-    accesses: &[Access],
+    recorder: &Recorder<V>,
+    input: &RunInput,
     history: &[u32],
-    owner: u32,
+    status: Status,
 ) -> End
-    requires attempts { All (λ access. access.attempt < 256) accesses.now }
-    requires number { length accesses.now < 2 ^ 32 }
-    requires history { IsHistory owner history.now }
-    ensures { Settles (failed_work status (record_writes (request_of job.now) accesses.now (lists owner history.now)))
+    requires taken { IsTaken input.now }
+    requires fits { FitFiles (sizes_in (run_taken input.now)).workers recorder.now.trace history.now }
+    ensures { Settles (failed_work status (records_of (run_taken input.now) recorder.now.trace history.now))
         (stand K.told K.faults K.heard cabinet.old) (stand K.told K.faults K.heard cabinet.new)
         (stand P.told P.faults P.heard printer.old) (stand P.told P.faults P.heard printer.new) result }
 {
-    let saved = save_records(cabinet, job, accesses, history, owner);
+    let saved = save_records(cabinet, recorder, input, history);
     settle_failed(status, saved, printer)
 }

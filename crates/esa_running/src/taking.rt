@@ -2,6 +2,7 @@
 
 ghost use Rattle.std.specs.Prelude.{◌≡◌, ◌≤◌, IfOk};
 ghost use Rattle.esa_job.specs.Seen.{request_of, Needs};
+ghost use Rattle.esa_params.specs.Sizes.{ArePlanned};
 ghost use Rattle.esa_refusal.specs.declared.stop.Stop.TheVariants.{Refused};
 ghost use Rattle.esa_command.specs.Judged.{Judged};
 ghost use Rattle.esa_command.specs.Stand.{stand};
@@ -24,9 +25,13 @@ pub(crate) fn plan_with(job: &Job, batch: &Scanned) -> Plan
     requires parameters { Needs job.now JobField.B }
     requires some { 1 ≤ batch.now.count }
     requires few { batch.now.count ≤ 262144 }
-    ensures { result ≡ sizes_with (request_of job.now) batch.now }
+    ensures sizes { result ≡ sizes_with (request_of job.now) batch.now }
+    ensures limits { ArePlanned result }
 {
-    Plan::of(job.settings(), batch.count, batch.form)
+    let plan = Plan::of(job.settings(), batch.count, batch.form);
+    // A plan of which a number is read is known to keep its limits.
+    let _records = plan.n();
+    plan
 }
 
 /// How a command stops for a drops file that isn't accepted.

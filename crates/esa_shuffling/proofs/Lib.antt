@@ -1,2 +1,2 @@
 pub mod Batching
-mod Turning
+pub mod Turning

@@ -4,7 +4,7 @@ use Rattle.esa_cli.proofs.Steps.{deviceless, ends_other}
 use Rattle.esa_cli.proofs.dispatch.run_call.Goals as goal
 
 pub run_alone-requires-clause-alone : goal.run_alone-requires-clause-alone
-run_alone-requires-clause-alone g c = deviceless c.args.call.command c.args.call.job.now c.in_default.not-Run
+run_alone-requires-clause-alone g c = deviceless c.args.call.command c.args.call.job.now c.in_default.not-Shuffle c.in_default.not-Run
 
 pub returns-in_default-clause-ends : goal.returns-in_default-clause-ends
 returns-in_default-clause-ends g c =
@@ -12,4 +12,4 @@ returns-in_default-clause-ends g c =
     let printer = stand g.P.Printer.told g.P.Printer.faults g.P.Printer.heard in
     ends_other g.V.Device.told g.V.Device.faults (record { recorder = c.args.recorder; recorder_now = c.args.recorder; history = [] }) g.S.Performs.crews (c.args.call.command, c.args.call.job.now)
     (cabinet c.args.cabinet.now) (cabinet c.run_alone.new.cabinet) (printer c.args.printer.now) (printer c.run_alone.new.printer) c.run_alone.result (refl, refl)
-    (deviceless c.args.call.command c.args.call.job.now c.in_default.not-Run) c.run_alone.ensures.ends
+    (deviceless c.args.call.command c.args.call.job.now c.in_default.not-Shuffle c.in_default.not-Run) c.run_alone.ensures.ends

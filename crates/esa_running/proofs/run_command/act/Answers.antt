@@ -1,21 +1,16 @@
-use Rattle.std.proofs.Common.{[], inr, refl, sym, ap, subst}
-use Rattle.esa_model.specs.Turns.{AreWorkers}
+use Rattle.std.proofs.Common.{[], inr, ℕ, Err, refl}
+use Rattle.esa_device.specs.Laying.{Counted}
+use Rattle.esa_device.specs.declared.device.LayRefused.TheVariants.{Failed}
+use Rattle.esa_outside.specs.Cause.{Rose}
 use Rattle.esa_refusal.specs.declared.status.DeviceAt.TheVariants.{Lay}
 use Rattle.esa_refusal.specs.declared.status.Status.TheVariants.{DeviceFault}
 use Rattle.esa_command.specs.Doing.{failed_work}
 use Rattle.esa_command.specs.Stand.{stand}
 use Rattle.esa_command.proofs.Settling.{none_written}
-use Rattle.std.proofs.Common.{ℕ, Err}
-use Rattle.esa_device.specs.Laying.{Counted}
-use Rattle.esa_device.specs.declared.device.LayRefused.TheVariants.{Failed}
-use Rattle.esa_outside.specs.Cause.{Rose}
 use Rattle.esa_running.proofs.run_command.act.Goals as goal
 
 failed_cause : (before now : ℕ) → Counted {T = Unit {0}} before now (Err Failed) → Rose before now
 failed_cause before now counted = counted.1
-
-pub run_ready-requires-clause-workers : goal.run_ready-requires-clause-workers
-run_ready-requires-clause-workers g c = subst (λ n. AreWorkers n c.args.input.now.turns) (sym (ap (λ p. p.workers) c.plan_with-plan.ensures)) c.requires.workers
 
 pub returns : goal.returns
 returns g c =

@@ -1,0 +1,29 @@
+-- What is asked for, in the words of a shuffle.
+use Rattle.std.specs.Prelude.{ℕ, List, [], unwrap_or}
+use Rattle.esa_envelope.specs.declared.keys.Keys.{Keys}
+use Rattle.esa_envelope.specs.declared.label.Label.TheVariants.{Block, Inner, Outer}
+use Rattle.esa_envelope.specs.Keys.{keys_from, record_keys}
+use Rattle.esa_model.specs.Forecast.{made}
+use Rattle.esa_params.specs.Sizes.{Sizes}
+use Rattle.esa_running.specs.Run.{Asked, sizes_with}
+
+abbrev pub sizes_in : Asked → Sizes
+sizes_in asked = sizes_with asked.job asked.batch
+
+-- the turns of each planned attempt: those that are handed in, completed
+abbrev pub turns_in : Asked → List (List ℕ)
+turns_in asked = made (sizes_in asked) asked.draws asked.turns
+
+-- the keys of the blocks, of the outer and of the inner envelopes, by the batch's form and epoch
+abbrev pub block_keys : Asked → Keys
+block_keys asked = keys_from (unwrap_or asked.keys.run []) Block
+
+abbrev pub outer_keys : Asked → Keys
+outer_keys asked = record_keys asked.batch.form asked.batch.epoch (unwrap_or asked.keys.outer []) Outer
+
+abbrev pub inner_keys : Asked → Keys
+inner_keys asked = record_keys asked.batch.form asked.batch.epoch (unwrap_or asked.keys.inner []) Inner
+
+-- the key that decides which records are dropped
+abbrev pub drop_key : Asked → List ℕ
+drop_key asked = unwrap_or asked.keys.drop_key []
