@@ -18,7 +18,6 @@ pub fn load<V: Device, G: Told, R: Records>(
     batch: &mut R,
 ) -> Result<(), Outcome>
     requires new { IsUnbegun V.faults G.plan G.draws floor.old }
-    requires log { floor.old.recorder.log ≡ [] }
     requires plan { loader.old.plan ≡ floor.old.plan }
     requires run { loader.old.run ≡ floor.old.run }
     requires count { R.count batch.old ≡ floor.old.plan.n }
@@ -26,8 +25,8 @@ pub fn load<V: Device, G: Told, R: Records>(
     ensures ends { EndsLoad V.faults G.plan G.draws floor.new (R.faults batch.old) (R.faults batch.new) result }
     ensures given { HasGiven floor.old.plan (R.told batch.old) (R.part (R.grounds batch.old)) (R.heard batch.old) (R.heard batch.new) (IsOk result)
         (λ bytes. OnOk result (TakesInput floor.new bytes)) }
-    ensures input { All (IsOfInput floor.new.plan) floor.new.recorder.log }
-    ensures writes { WritesLoaded result floor.new.recorder.log }
+    ensures input { floor.old.recorder.log ≡ [] → All (IsOfInput floor.new.plan) floor.new.recorder.log }
+    ensures writes { floor.old.recorder.log ≡ [] → WritesLoaded result floor.new.recorder.log }
     ensures floor { floor.new ≡ record floor.old { recorder = floor.new.recorder } }
     ensures told { R.told batch.new ≡ R.told batch.old }
     ensures grounds { R.grounds batch.new ≡ R.grounds batch.old }

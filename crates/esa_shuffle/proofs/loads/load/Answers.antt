@@ -108,7 +108,7 @@ returns-in-Err-Device-clause-given g c =
     some_given faults g.G.Told.plan g.G.Told.draws f c.requires.new r told part given before after (end.0 + 1) (written_blocks f.plan f.run given end.0 ++ failed_block f.plan end.0 ∷ []) (omega (arith, inside)) end.3
 
 pub returns-in-Ok-clause-input : goal.returns-in-Ok-clause-input
-returns-in-Ok-clause-input g c =
+returns-in-Ok-clause-input g c = λ empty.
     let faults = g.V.Device.faults in
     let f = c.args.floor.now in
     let r = c.load.new.recorder in
@@ -119,11 +119,11 @@ returns-in-Ok-clause-input g c =
     let given = c.in-Ok.ensures.end.0 in
     let end = moved faults g.G.Told.plan g.G.Told.draws f c.requires.new r told part given before after c.args.loader.now.plan c.args.loader.now.run c.recorder.result.now (Ok c.in-Ok.field-0) c.requires.plan c.requires.run
     c.recorder.ensures.value c.in-Ok.ensures.end.1 in
-    let is = log_is faults g.G.Told.plan g.G.Told.draws f c.requires.new r told part given before after f.plan.b (written_blocks f.plan f.run given f.plan.b) end.0 c.requires.log in
+    let is = log_is faults g.G.Told.plan g.G.Told.draws f c.requires.new r told part given before after f.plan.b (written_blocks f.plan f.run given f.plan.b) end.0 empty in
     subst (All (IsOfInput f.plan)) (sym is) (loaded_input f.plan f.run given f.plan.b (omega arith))
 
 pub returns-in-Ok-clause-writes : goal.returns-in-Ok-clause-writes
-returns-in-Ok-clause-writes g c =
+returns-in-Ok-clause-writes g c = λ empty.
     let faults = g.V.Device.faults in
     let f = c.args.floor.now in
     let r = c.load.new.recorder in
@@ -134,11 +134,11 @@ returns-in-Ok-clause-writes g c =
     let given = c.in-Ok.ensures.end.0 in
     let end = moved faults g.G.Told.plan g.G.Told.draws f c.requires.new r told part given before after c.args.loader.now.plan c.args.loader.now.run c.recorder.result.now (Ok c.in-Ok.field-0) c.requires.plan c.requires.run
     c.recorder.ensures.value c.in-Ok.ensures.end.1 in
-    let is = log_is faults g.G.Told.plan g.G.Told.draws f c.requires.new r told part given before after f.plan.b (written_blocks f.plan f.run given f.plan.b) end.0 c.requires.log in
+    let is = log_is faults g.G.Told.plan g.G.Told.draws f c.requires.new r told part given before after f.plan.b (written_blocks f.plan f.run given f.plan.b) end.0 empty in
     subst NoWriteFailed (sym is) (loaded_writes f.plan f.run given f.plan.b)
 
 pub returns-in-Err-Batch-clause-input : goal.returns-in-Err-Batch-clause-input
-returns-in-Err-Batch-clause-input g c =
+returns-in-Err-Batch-clause-input g c = λ empty.
     let faults = g.V.Device.faults in
     let f = c.args.floor.now in
     let r = c.load.new.recorder in
@@ -154,11 +154,11 @@ returns-in-Err-Batch-clause-input g c =
     (subst (λ (fault : LoadFault). LoadEnd {T = Unit {0}} faults c.args.loader.now.plan c.args.loader.now.run told part given c.recorder.result.now r before after (Err fault)) c.in-Err-Batch.field-0-is
     c.in-Err-Batch.ensures.end.1) in
     let inside = end.0 in
-    let is = log_is faults g.G.Told.plan g.G.Told.draws f c.requires.new r told part given before after j (written_blocks f.plan f.run given j) end.1 c.requires.log in
+    let is = log_is faults g.G.Told.plan g.G.Told.draws f c.requires.new r told part given before after j (written_blocks f.plan f.run given j) end.1 empty in
     subst (All (IsOfInput f.plan)) (sym is) (loaded_input f.plan f.run given j (omega (arith, inside)))
 
 pub returns-in-Err-Batch-clause-writes : goal.returns-in-Err-Batch-clause-writes
-returns-in-Err-Batch-clause-writes g c =
+returns-in-Err-Batch-clause-writes g c = λ empty.
     let faults = g.V.Device.faults in
     let f = c.args.floor.now in
     let r = c.load.new.recorder in
@@ -174,11 +174,11 @@ returns-in-Err-Batch-clause-writes g c =
     (subst (λ (fault : LoadFault). LoadEnd {T = Unit {0}} faults c.args.loader.now.plan c.args.loader.now.run told part given c.recorder.result.now r before after (Err fault)) c.in-Err-Batch.field-0-is
     c.in-Err-Batch.ensures.end.1) in
     let inside = end.0 in
-    let is = log_is faults g.G.Told.plan g.G.Told.draws f c.requires.new r told part given before after j (written_blocks f.plan f.run given j) end.1 c.requires.log in
+    let is = log_is faults g.G.Told.plan g.G.Told.draws f c.requires.new r told part given before after j (written_blocks f.plan f.run given j) end.1 empty in
     subst NoWriteFailed (sym is) (loaded_writes f.plan f.run given j)
 
 pub returns-in-Err-Device-clause-input : goal.returns-in-Err-Device-clause-input
-returns-in-Err-Device-clause-input g c =
+returns-in-Err-Device-clause-input g c = λ empty.
     let faults = g.V.Device.faults in
     let f = c.args.floor.now in
     let r = c.load.new.recorder in
@@ -193,11 +193,11 @@ returns-in-Err-Device-clause-input g c =
     (subst (λ (fault : LoadFault). LoadEnd {T = Unit {0}} faults c.args.loader.now.plan c.args.loader.now.run told part given c.recorder.result.now r before after (Err fault)) c.in-Err-Device.field-0-is
     c.in-Err-Device.ensures.end.1) in
     let j = end.0 in
-    let is = log_is faults g.G.Told.plan g.G.Told.draws f c.requires.new r told part given before after (j + 1) (written_blocks f.plan f.run given j ++ failed_block f.plan j ∷ []) end.3 c.requires.log in
+    let is = log_is faults g.G.Told.plan g.G.Told.draws f c.requires.new r told part given before after (j + 1) (written_blocks f.plan f.run given j ++ failed_block f.plan j ∷ []) end.3 empty in
     subst (All (IsOfInput f.plan)) (sym is) (failed_input f.plan f.run given j end.1)
 
 pub returns-in-Err-Device-clause-writes : goal.returns-in-Err-Device-clause-writes
-returns-in-Err-Device-clause-writes g c =
+returns-in-Err-Device-clause-writes g c = λ empty.
     let faults = g.V.Device.faults in
     let f = c.args.floor.now in
     let r = c.load.new.recorder in
@@ -212,5 +212,5 @@ returns-in-Err-Device-clause-writes g c =
     (subst (λ (fault : LoadFault). LoadEnd {T = Unit {0}} faults c.args.loader.now.plan c.args.loader.now.run told part given c.recorder.result.now r before after (Err fault)) c.in-Err-Device.field-0-is
     c.in-Err-Device.ensures.end.1) in
     let j = end.0 in
-    let is = log_is faults g.G.Told.plan g.G.Told.draws f c.requires.new r told part given before after (j + 1) (written_blocks f.plan f.run given j ++ failed_block f.plan j ∷ []) end.3 c.requires.log in
+    let is = log_is faults g.G.Told.plan g.G.Told.draws f c.requires.new r told part given before after (j + 1) (written_blocks f.plan f.run given j ++ failed_block f.plan j ∷ []) end.3 empty in
     subst OnlyLastFailed (sym is) (failed_writes f.plan f.run given j)
