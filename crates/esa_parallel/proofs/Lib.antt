@@ -1,3 +1,4 @@
 mod Attempting
 mod Between
 mod Fronting
+mod Posting

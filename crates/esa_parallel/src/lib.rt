@@ -8,4 +8,6 @@
 
 mod attempt;
 mod attempts;
+mod parallel;
 mod runs;
+mod tools;
