@@ -86,14 +86,13 @@ def files_of(folder):
 
 def restore(folder, held):
     """Makes a folder hold these files and no others."""
-    for name in os.listdir(folder):
+    held_now = files_of(folder)
+    for name in held_now:
         if name not in held:
             os.remove(os.path.join(folder, name))
     for name, data in held.items():
         path = os.path.join(folder, name)
-        with open(path, "rb") as file:
-            same = file.read() == data
-        if not same:
+        if held_now.get(name) != data:
             with open(path, "wb") as file:
                 file.write(data)
 
