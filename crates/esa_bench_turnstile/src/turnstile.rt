@@ -13,7 +13,7 @@ use std::thread;
 use std::thread::Threads;
 use std::time::Instant;
 
-// More is no measurement, but a mistake.
+/// More is no measurement, but a mistake.
 const MOST_THREADS: u64 = 64;
 
 const MOST_TURNS: u64 = 100_000_000;

@@ -12,7 +12,7 @@ pub struct Call<'a> {
     pub job: &'a str,
 }
 
-// The command that a word names.
+/// The command that a word names.
 fn named(word: &str) -> Option<Command>
     ensures { result ≡ command_named word.now }
 {

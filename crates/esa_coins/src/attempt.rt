@@ -22,7 +22,7 @@ pub(crate) struct Attempt {
 impl Attempt {
     ghost use Rattle.esa_coins.specs.Attempt.{table_of};
 
-    // The lists of an attempt, from its object.
+    /// The lists of an attempt, from its object.
     fn read(
         alloc: Global,
         plan: &Plan,
@@ -36,7 +36,7 @@ impl Attempt {
         Ok(Attempt { targets, orders })
     }
 
-    // The lists of each attempt, from their objects.
+    /// The lists of each attempt, from their objects.
     fn read_each(
         alloc: Global,
         plan: &Plan,
@@ -90,7 +90,7 @@ fn are_objects(values: &[Value]) -> bool
     values.iter().all(Value::is_object)
 }
 
-// The objects of so many attempts.
+/// The objects of so many attempts.
 fn attempts_in(count: u32, object: &Value) -> Result<&[Value], CoinsRefused>
     ensures { let wanted = attempts_in count (view object.now) in
         MatchResult result (λ objects. wanted ≡ Ok (map view objects.now)) (λ error. wanted ≡ Err error) }

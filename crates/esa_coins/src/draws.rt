@@ -11,7 +11,7 @@ use rand::seq::SliceRandom;
 use rand_chacha::ChaCha20Rng;
 use rand_core::SeedableRng;
 
-// ChaCha20 with the seed's key, at the start of the stream of a number.
+/// ChaCha20 with the seed's key, at the start of the stream of a number.
 fn generator(seed: [u8; 32], number: u64) -> ChaCha20Rng
     ensures { stream_of (steps_u32 (next_word 10)) result ≡ stream_at seed number }
 {
@@ -32,7 +32,7 @@ pub(crate) fn draw_below(seed: [u8; 32], number: u64, bound: u32, out: &mut [u32
     }
 }
 
-// Writes the numbers from 0 on.
+/// Writes the numbers from 0 on.
 fn number_up(out: &mut [u32])
     requires { length out.old ≤ 2 ^ 32 }
     ensures { out.new ≡ below (length out.old) }

@@ -34,7 +34,7 @@ pub(crate) fn list_in(
     }
 }
 
-// The whole numbers that the values are.
+/// The whole numbers that the values are.
 fn whole_numbers(
     alloc: Global,
     refused: CoinsRefused,
@@ -65,7 +65,7 @@ fn numbers_in(
     whole_numbers(alloc, refused, values)
 }
 
-// The numbers as targets, which are below the number of buckets.
+/// The numbers as targets, which are below the number of buckets.
 fn targets_below(
     alloc: Global,
     buckets: u32,
@@ -102,7 +102,7 @@ pub(crate) fn targets_in(
     targets_below(alloc, plan.b(), attempt, numbers.as_slice())
 }
 
-// The numbers as numbers of 32 bits, which they are.
+/// The numbers as numbers of 32 bits, which they are.
 fn narrowed(alloc: Global, numbers: &[u64]) -> Result<Vec<u32>, AllocError>
     requires { All (λ number. number < 2 ^ 32) numbers.now }
     ensures { IfOk result (λ narrow. narrow.items ≡ numbers.now) }
@@ -114,7 +114,7 @@ fn narrowed(alloc: Global, numbers: &[u64]) -> Result<Vec<u32>, AllocError>
     Ok(narrow)
 }
 
-// The order of a bucket: a permutation of the places of an import.
+/// The order of a bucket: a permutation of the places of an import.
 fn order_in(
     alloc: Global,
     plan: &Plan,
@@ -135,7 +135,7 @@ fn order_in(
     Ok(narrowed(alloc, numbers)?)
 }
 
-// The orders of buckets, from bucket 0 on.
+/// The orders of buckets, from bucket 0 on.
 fn each_order(
     alloc: Global,
     plan: &Plan,

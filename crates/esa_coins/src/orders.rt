@@ -26,8 +26,8 @@ pub(crate) fn is_order(alloc: Global, places: u32, numbers: &[u64]) -> Result<bo
     Ok(mark_each(numbers, seen.as_mut_slice()))
 }
 
-// Marks the place of each number, up to the first that has none, or one that is marked already. Whether there is none
-// such.
+/// Marks the place of each number, up to the first that has none, or one that is marked already. Whether there is none
+/// such.
 fn mark_each(numbers: &[u64], seen: &mut [bool]) -> bool
     requires none_seen { seen.old ≡ replicate (length seen.old) false }
     requires as_many { length numbers.now ≡ length seen.old }

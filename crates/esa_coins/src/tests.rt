@@ -23,7 +23,7 @@ fn plan_of(b: u64, c: u64, k: u64, attempts: u64, n: u32) -> Result<Plan, Fail> 
     }
 }
 
-// The coins of the seed whose bytes are 0, 1, 2 and so on.
+/// The coins of the seed whose bytes are 0, 1, 2 and so on.
 fn seeded(draw: Draw, plan: Plan) -> SeededCoins {
     let mut seed = [0; 32];
     for place in 0..32 {
@@ -32,7 +32,7 @@ fn seeded(draw: Draw, plan: Plan) -> SeededCoins {
     SeededCoins::make(seed, draw, plan)
 }
 
-// A bucket of an attempt has these targets. Threads may share the coins.
+/// A bucket of an attempt has these targets. Threads may share the coins.
 fn has_targets<C: Coins + Sync>(
     rt: &(impl Abort + AllocGlobal),
     coins: &C,
@@ -53,7 +53,7 @@ fn has_targets<C: Coins + Sync>(
     Ok(())
 }
 
-// A target of an attempt has this order.
+/// A target of an attempt has this order.
 fn has_order<C: Coins + Sync>(
     rt: &(impl Abort + AllocGlobal),
     coins: &C,
@@ -72,7 +72,7 @@ fn has_order<C: Coins + Sync>(
     Ok(())
 }
 
-// How targets are drawn, the attempt, the bucket, and its targets, for 22 records in three buckets.
+/// How targets are drawn, the attempt, the bucket, and its targets, for 22 records in three buckets.
 const TARGETS: [(Draw, u32, u32, &[u32]); 10] = [
     (Draw::Single, 0, 0, &[1, 1, 1, 0, 1, 2, 0, 1]),
     (Draw::Single, 0, 1, &[0, 1, 2, 2, 0, 1, 1, 1]),
@@ -96,7 +96,7 @@ fn drawn_targets(rt: HostRuntime) -> Result<(), Fail> {
     Ok(())
 }
 
-// One bucket has no separators, and a bucket without places has no targets, though there are separators to shuffle.
+/// One bucket has no separators, and a bucket without places has no targets, though there are separators to shuffle.
 #[test]
 fn separators_at_their_edges(rt: HostRuntime) -> Result<(), Fail> {
     let one = seeded(Draw::Separators, plan_of(1, 4, 0, 1, 4)?);
@@ -105,7 +105,7 @@ fn separators_at_their_edges(rt: HostRuntime) -> Result<(), Fail> {
     has_targets(&rt, &empty, 0, 3, &[])
 }
 
-// The attempt, the target, and its order, however targets are drawn.
+/// The attempt, the target, and its order, however targets are drawn.
 const ORDERS: [(u32, u32, [u32; 13]); 3] = [
     (0, 0, [3, 1, 11, 7, 9, 8, 4, 12, 5, 2, 6, 0, 10]),
     (0, 1, [2, 4, 9, 7, 6, 12, 8, 5, 10, 0, 11, 1, 3]),
@@ -129,7 +129,7 @@ const FILE: &[u8] = br#"{"attempts":[
     {"targets":[0,0,1,0],"orders":[[1,2,0],[0,2,1]]},
     {"targets":[1,0,1,1],"orders":[[2,1,0],[0,1,2]]}]}"#;
 
-// The attempt, a bucket, its targets, and the order of the target of its number.
+/// The attempt, a bucket, its targets, and the order of the target of its number.
 const LISTS: [(u32, u32, [u32; 2], [u32; 3]); 4] = [
     (0, 0, [0, 0], [1, 2, 0]),
     (0, 1, [1, 0], [0, 2, 1]),

@@ -5,7 +5,7 @@ use esa_report::{Item, Kind};
 use std::alloc::{AllocError, Global};
 use std::test::Fail;
 
-// A real item with a number, which isn't 0.
+/// A real item with a number, which isn't 0.
 fn real(number: u8) -> Item {
     Item {
         kind: Kind::Real,
@@ -13,7 +13,7 @@ fn real(number: u8) -> Item {
     }
 }
 
-// The numbers of items, and 0 for one whose body is zero.
+/// The numbers of items, and 0 for one whose body is zero.
 fn numbers(alloc: Global, items: &[Item]) -> Result<Vec<u8>, AllocError> {
     let mut numbers = Vec::new(alloc);
     for item in items {
@@ -22,8 +22,8 @@ fn numbers(alloc: Global, items: &[Item]) -> Result<Vec<u8>, AllocError> {
     Ok(numbers)
 }
 
-// The import of target 0 of the worked shuffle whose order is 2, 0, 1, 3: the places 0 and 1, the place 3 and a dummy.
-// The queue has room for four items, and the import of target 1 fills it.
+/// The import of target 0 of the worked shuffle whose order is 2, 0, 1, 3: the places 0 and 1, the place 3 and a dummy.
+/// The queue has room for four items, and the import of target 1 fills it.
 #[test]
 fn arranged(rt: HostRuntime) -> Result<(), Fail> {
     let alloc = rt.alloc();
@@ -49,7 +49,7 @@ fn arranged(rt: HostRuntime) -> Result<(), Fail> {
     Ok(())
 }
 
-// Three items are asked for where two are held, and two are taken. Then none is held, and none can be taken.
+/// Three items are asked for where two are held, and two are taken. Then none is held, and none can be taken.
 #[test]
 fn starved(rt: HostRuntime) -> Result<(), Fail> {
     let alloc = rt.alloc();
@@ -65,7 +65,7 @@ fn starved(rt: HostRuntime) -> Result<(), Fail> {
     Ok(())
 }
 
-// A window that is cleared has its whole room again.
+/// A window that is cleared has its whole room again.
 #[test]
 fn cleared(rt: HostRuntime) -> Result<(), Fail> {
     let alloc = rt.alloc();

@@ -104,7 +104,7 @@ impl<R: Files<File = File> + Drop> Device for FileDevice<R> {
     }
 }
 
-// The lengths of all blocks, together.
+/// The lengths of all blocks, together.
 #[tactic(auto, using(crate::proofs::Lengths::last_small, crate::proofs::Lengths::last_is))]
 fn whole_length(plan: &Plan) -> u64
     ensures { result ≡ offset_at plan.now (slots_of plan.now) }
@@ -116,8 +116,8 @@ fn whole_length(plan: &Plan) -> u64
     plan.offset(last) + u64::from(plan.length(last))
 }
 
-// Makes the file anew, of this many zero bytes. It is locked until it is closed, and left alone where another device has
-// it locked.
+/// Makes the file anew, of this many zero bytes. It is locked until it is closed, and left alone where another device
+/// has it locked.
 fn open<R: Files<File = File>>(rt: &R, path: &str, length: u64) -> io::Result<File> {
     let file = OpenOptions::new()
         .read(true)

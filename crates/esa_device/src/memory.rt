@@ -26,7 +26,7 @@ pub struct Flip {
 }
 
 impl Flip {
-    // Changes what an access gives, if it is the one of the flip.
+    /// Changes what an access gives, if it is the one of the flip.
     fn apply(&self, access: u64, out: &mut [u8])
         ensures { out.new ≡ flipped_by self.now access out.old }
     {
@@ -164,7 +164,7 @@ impl Device for MemDevice {
     }
 }
 
-// A block of zero bytes for each slot of a plan.
+/// A block of zero bytes for each slot of a plan.
 fn zeroed(alloc: Global, plan: &Plan) -> Result<Vec<Vec<u8>>, AllocError>
     ensures { IfOk result (λ blocks. contents blocks.items ≡ zero_blocks plan.now) }
 {
@@ -176,7 +176,7 @@ fn zeroed(alloc: Global, plan: &Plan) -> Result<Vec<Vec<u8>>, AllocError>
     Ok(blocks)
 }
 
-// Puts bytes in the place of those of a block.
+/// Puts bytes in the place of those of a block.
 fn replace(block: &mut Vec<u8>, bytes: &[u8])
     requires { length block.old.items ≡ length bytes.now }
     ensures { block.new.items ≡ bytes.now }
@@ -184,7 +184,7 @@ fn replace(block: &mut Vec<u8>, bytes: &[u8])
     block.copy_from_slice(bytes);
 }
 
-// Changes what an access gives by the flips that name it.
+/// Changes what an access gives by the flips that name it.
 fn flip_all(flips: &[Flip], access: u64, out: &mut [u8])
     ensures { out.new ≡ flipped flips.now access out.old }
 {

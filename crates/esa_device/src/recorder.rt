@@ -196,7 +196,7 @@ impl<V: Device> Recorder<V> {
         self.device.faults()
     }
 
-    // The number of an access's slot.
+    /// The number of an access's slot.
     fn number(&self, access: Access) -> u32
         requires { (op : Op) × (n : ℕ) × Names op self.now.plan access n }
         ensures value { result ≡ number_in self.now.plan access }
@@ -210,7 +210,7 @@ impl<V: Device> Recorder<V> {
     }
 }
 
-// Keeps bytes at the front of a room for them, and answers how many they are.
+/// Keeps bytes at the front of a room for them, and answers how many they are.
 fn keep(room: &mut Vec<u8>, bytes: &[u8]) -> usize
     requires { length bytes.now ≤ length room.old.items }
     ensures number { result ≡ length bytes.now }
@@ -222,7 +222,7 @@ fn keep(room: &mut Vec<u8>, bytes: &[u8]) -> usize
     bytes.len()
 }
 
-// Puts bytes at the front.
+/// Puts bytes at the front.
 fn put_front(room: &mut [u8], bytes: &[u8])
     requires { length bytes.now ≤ length room.old }
     ensures { take (length bytes.now) room.new ≡ bytes.now }

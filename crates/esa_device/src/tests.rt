@@ -22,19 +22,19 @@ const BASE: Params = Params {
     attempts: 1,
 };
 
-// Four records in two buckets: ten slots, with blocks of 392, 177, 177 and 314 bytes.
+/// Four records in two buckets: ten slots, with blocks of 392, 177, 177 and 314 bytes.
 fn base() -> Result<Plan, Fail> {
     Ok(Plan::of(check(&BASE)?, 4, Form::One))
 }
 
-// A block of a slot, each of whose bytes is this.
+/// A block of a slot, each of whose bytes is this.
 fn block_of(rt: &(impl Abort + AllocGlobal), number: u32, byte: u8) -> Result<Vec<u8>, Fail> {
     let plan = base()?;
     assert!(rt; number < plan.slots());
     Ok(vec![in rt.alloc(); byte; plan.length(number) as usize]?)
 }
 
-// Reads a slot into the block or writes the block, which then begins with the nonce, and answers whether it was done.
+/// Reads a slot into the block or writes the block, which then begins with the nonce, and answers whether it was done.
 fn is_done<V: Device>(
     rt: &impl Abort,
     recorder: &mut Recorder<V>,
@@ -56,7 +56,7 @@ fn is_done<V: Device>(
     }
 }
 
-// What is written to a slot, whose bytes after the nonce are all this one.
+/// What is written to a slot, whose bytes after the nonce are all this one.
 fn written<V: Device>(
     rt: &(impl Abort + AllocGlobal),
     recorder: &mut Recorder<V>,
@@ -68,7 +68,7 @@ fn written<V: Device>(
     Ok(block)
 }
 
-// A slot gives this block.
+/// A slot gives this block.
 fn gives<V: Device>(
     rt: &(impl Abort + AllocGlobal),
     recorder: &mut Recorder<V>,
@@ -81,21 +81,21 @@ fn gives<V: Device>(
     Ok(())
 }
 
-// A recorder goes to another thread where its device does.
+/// A recorder goes to another thread where its device does.
 fn crossed<V: Device + Send>(recorder: Recorder<V>) -> Recorder<V>
     ensures { result ≡ recorder }
 {
     sent(recorder)
 }
 
-// The value, which may go to another thread.
+/// The value, which may go to another thread.
 fn sent<T: Send>(value: T) -> T
     ensures { result ≡ value }
 {
     value
 }
 
-// A flipped bit changes what is read, and is no fault; a listed access is one.
+/// A flipped bit changes what is read, and is no fault; a listed access is one.
 #[test]
 fn in_memory(rt: HostRuntime) -> Result<(), Fail> {
     let alloc = rt.alloc();
@@ -126,10 +126,10 @@ fn with_a_fixed_slot(rt: HostRuntime) -> Result<(), Fail> {
     gives(&rt, &mut recorder, 2, &fixed)
 }
 
-// A file in the folder that the tests run in.
+/// A file in the folder that the tests run in.
 const NAME: &str = "esa-device-test";
 
-// A recorder of a device in a file of this name.
+/// A recorder of a device in a file of this name.
 fn on_file<R: Files<File = File> + AllocGlobal + Drop>(
     rt: R,
     name: &str,
@@ -141,7 +141,7 @@ fn on_file<R: Files<File = File> + AllocGlobal + Drop>(
     Ok(Recorder::make(alloc, device))
 }
 
-// Writes to each slot other bytes.
+/// Writes to each slot other bytes.
 fn write_each<V: Device>(
     rt: &(impl Abort + AllocGlobal),
     recorder: &mut Recorder<V>,
@@ -154,7 +154,7 @@ fn write_each<V: Device>(
     Ok(blocks)
 }
 
-// Each slot gives its block of these.
+/// Each slot gives its block of these.
 fn give_each<V: Device>(
     rt: &(impl Abort + AllocGlobal),
     recorder: &mut Recorder<V>,
@@ -166,7 +166,7 @@ fn give_each<V: Device>(
     Ok(())
 }
 
-// Each slot gives zero bytes.
+/// Each slot gives zero bytes.
 fn give_zeros<V: Device>(
     rt: &(impl Abort + AllocGlobal),
     recorder: &mut Recorder<V>,
@@ -188,7 +188,7 @@ fn blocks_in_a_file(rt: HostRuntime) -> Result<(), Fail> {
     Ok(())
 }
 
-// Laid anew over what a file held, and laid twice, it has zero bytes.
+/// Laid anew over what a file held, and laid twice, it has zero bytes.
 #[test]
 fn laid_anew(rt: HostRuntime) -> Result<(), Fail> {
     let name = "esa-device-test-anew";
@@ -204,7 +204,7 @@ fn laid_anew(rt: HostRuntime) -> Result<(), Fail> {
     Ok(())
 }
 
-// While one device is laid over a file another can't be, and the blocks of the first stay; once it is gone, it can.
+/// While one device is laid over a file another can't be, and the blocks of the first stay; once it is gone, it can.
 #[test]
 fn laid_by_one_at_a_time(rt: HostRuntime) -> Result<(), Fail> {
     let name = "esa-device-test-shared";

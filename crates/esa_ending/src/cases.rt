@@ -9,23 +9,24 @@ ghost use Rattle.esa_params.specs.declared.slot.Region.TheVariants.{Mid, Tail, O
 ghost use Rattle.esa_spec.specs.Cases.{accessed, base};
 ghost use Rattle.esa_spec.specs.declared.event.Verdict.TheVariants.{StashOverflow};
 
-// All 22 accesses and ten turns: attempt 0 succeeds, and the third record comes out last.
+/// All 22 accesses and ten turns: attempt 0 succeeds, and the third record comes out last.
 fn base_succeeds()
     ensures succeeds { Succeeds base base_draws (replicate 10 0 ∷ []) (seen_after 22 10) 0 }
     ensures order { ComesOut {X = ℕ} base base_draws (replicate 10 0 ∷ []) 0 (10 ∷ 20 ∷ 30 ∷ 40 ∷ []) (10 ∷ 20 ∷ 40 ∷ 30 ∷ []) }
 {}
 
-// Without a stash the first exchange overflows: the load, one read and three turns.
+/// Without a stash the first exchange overflows: the load, one read and three turns.
 fn stash_zero_overflows()
     ensures { Overflows stash_zero base_draws (replicate 3 0 ∷ []) (seen_after 3 3) (StashOverflow 0 ∷ []) }
 {}
 
-// Access 7 is the write of the first chunk of bucket 1, in the ninth turn.
+/// Access 7 is the write of the first chunk of bucket 1, in the ninth turn.
 fn device_fails_at_seven()
     ensures { DeviceFails base base_draws (replicate 10 0 ∷ []) (seen_at_fault 7 9) 4 }
 {}
 
-// Access 11 is the first read of the compression. Its block has one record and no dummy; the tail of target 1 has none.
+/// Access 11 is the first read of the compression. Its block has one record and no dummy; the tail of target 1 has
+/// none.
 fn flip_at_eleven()
     ensures tampered { BlockIsTampered base base_draws (replicate 10 0 ∷ []) (seen_after 11 10) (λ slot attempt count. false) 2 }
     ensures chunk { items_in base (base_draws 0) (0 ∷ 1 ∷ []) (accessed Read Mid 0 0 177 2) ≡ 1 }
@@ -33,7 +34,7 @@ fn flip_at_eleven()
     ensures output { items_in base (base_draws 0) (0 ∷ 1 ∷ []) (accessed Read Output 0 1 314 9) ≡ 2 }
 {}
 
-// Bucket 0 was written, and bucket 1 couldn't be read.
+/// Bucket 0 was written, and bucket 1 couldn't be read.
 fn batch_fails_in_load()
     ensures { BatchFails base (seen_in_load 1) 1 }
 {}

@@ -124,8 +124,7 @@ const NOTHING: Sealed = Sealed {
     bytes: [0; 304],
 };
 
-/// The envelopes of all lines of texts, which are so many, offered by threads. None where a line is refused, or found no
-/// room.
+/// The envelopes of all lines of texts, which are so many, offered by threads. None where a line is refused.
 fn offered<R: Threads + Wait + Sync>(
     rt: &R,
     alloc: Global,

@@ -58,7 +58,7 @@ impl Command {
         }
     }
 
-    // The command's place among the commands.
+    /// The command's place among the commands.
     fn place(self) -> u8
         ensures { result ≡ place_of self }
     {
@@ -79,14 +79,14 @@ impl Command {
         }
     }
 
-    // Whether the command is one of these.
+    /// Whether the command is one of these.
     pub(crate) fn is_among(self, commands: &[Command]) -> bool
         ensures { result ≡ is_among commands.now self }
     {
         commands.iter().any(|named| named.place() == self.place())
     }
 
-    // Whether the command takes a plan for what it is, so that nothing is shuffled.
+    /// Whether the command takes a plan for what it is, so that nothing is shuffled.
     pub(crate) fn only_plans(self) -> bool
         ensures { result ≡ only_plans self }
     {

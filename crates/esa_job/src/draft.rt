@@ -24,7 +24,7 @@ impl Draft {
     ghost use Rattle.esa_job.specs.Request.{value_at, is_there, name_at, number_at, draw_at, mode_at, list_at, inputs_at};
     ghost use Rattle.esa_job.specs.Draft.{drafted};
 
-    // The value of a field: nothing where it isn't there, or where the command ignores it.
+    /// The value of a field: nothing where it isn't there, or where the command ignores it.
     pub(crate) fn value(&self, field: JobField) -> Option<&Value>
         ensures { option_map (λ value. view value.now) result ≡ value_at (drafted self.now) field }
     {
@@ -55,14 +55,14 @@ impl Draft {
         field.need(self.command) == Need::Needed && !self.has(field)
     }
 
-    // The name of a file.
+    /// The name of a file.
     fn name(&self, field: JobField) -> Option<&str>
         ensures { option_map (λ name. name.now) result ≡ name_at (drafted self.now) field }
     {
         name_in(self.value(field)?)
     }
 
-    // A number.
+    /// A number.
     fn number_of(&self, field: JobField) -> Option<u64>
         ensures { result ≡ number_at (drafted self.now) field }
     {
@@ -71,7 +71,7 @@ impl Draft {
 
     // ---- the first bad field
 
-    // Whether there are neither coins nor a seed, for a command that uses them.
+    /// Whether there are neither coins nor a seed, for a command that uses them.
     fn lacks_coins(&self) -> bool
         ensures { result ≡ lacks_coins (drafted self.now) }
     {
@@ -89,7 +89,7 @@ impl Draft {
         }
     }
 
-    // Whether the field breaks a rule of its own.
+    /// Whether the field breaks a rule of its own.
     fn breaks_rule(&self, field: JobField) -> bool
         ensures { result ≡ breaks_rule (drafted self.now) field }
     {
@@ -128,7 +128,7 @@ impl Draft {
         }
     }
 
-    // Workers take no handed-in turns, and run only where they may.
+    /// Workers take no handed-in turns, and run only where they may.
     fn crew_refusal(&self, crew_allowed: bool) -> Option<JobField>
         ensures { result ≡ crew_refusal crew_allowed (drafted self.now) }
     {
@@ -157,7 +157,7 @@ impl Draft {
         mode_in(self.value(JobField::Mode)?)
     }
 
-    // The values of the list of inputs.
+    /// The values of the list of inputs.
     fn inputs(&self) -> &[Value]
         ensures { map view result.now ≡ list_at (drafted self.now) }
     {
@@ -169,7 +169,7 @@ impl Draft {
 
     // ---- names of files to write
 
-    // Whether the field has this name.
+    /// Whether the field has this name.
     fn is_named(&self, field: JobField, name: &str) -> bool
         ensures { result ≡ is_named (drafted self.now) name.now field }
     {
@@ -179,21 +179,21 @@ impl Draft {
         }
     }
 
-    // Whether one of the fields has this name.
+    /// Whether one of the fields has this name.
     fn has_name(&self, fields: &[JobField], name: &str) -> bool
         ensures { result ≡ has_name (drafted self.now) fields.now name.now }
     {
         fields.iter().any(|field| self.is_named(*field, name))
     }
 
-    // Whether one of the inputs has this name.
+    /// Whether one of the inputs has this name.
     fn has_input(&self, name: &str) -> bool
         ensures { result ≡ list_any (bytes_eq name.now) (inputs_at (drafted self.now)) }
     {
         is_among(self.inputs(), name)
     }
 
-    // Whether the name is that of the job file, of a file to read, or of one of these fields.
+    /// Whether the name is that of the job file, of a file to read, or of one of these fields.
     fn is_taken(&self, job_name: &str, earlier: &[JobField], name: &str) -> bool
         ensures { result ≡ is_taken (drafted self.now) job_name.now earlier.now name.now }
     {
@@ -212,7 +212,7 @@ impl Draft {
         }
     }
 
-    // The first file to write whose name is taken.
+    /// The first file to write whose name is taken.
     #[tactic(auto, unfolding(crate::specs::Refusal::first_clash))]
     fn first_clash(&self, job_name: &str) -> Option<JobField>
         ensures { result ≡ first_clash (drafted self.now) job_name.now }
@@ -256,7 +256,7 @@ impl Draft {
         }
     }
 
-    // The first parameter past its limits, for a command that uses them.
+    /// The first parameter past its limits, for a command that uses them.
     fn first_param_past(&self) -> Option<ParamField>
         ensures { result ≡ first_param_past (drafted self.now) }
     {
@@ -269,7 +269,7 @@ impl Draft {
         }
     }
 
-    // Whether the number is there, and isn't within the limits of its row.
+    /// Whether the number is there, and isn't within the limits of its row.
     fn is_past(&self, field: JobField) -> bool
         ensures { result ≡ is_past (drafted self.now) field }
     {
@@ -281,7 +281,7 @@ impl Draft {
         }
     }
 
-    // The first of the other numbers that is past its limits.
+    /// The first of the other numbers that is past its limits.
     #[tactic(auto, unfolding(crate::specs::Table::limited_fields))]
     fn first_past_field(&self) -> Option<JobField>
         ensures { result ≡ first_past_field (drafted self.now) }
@@ -310,7 +310,7 @@ impl Draft {
 
     // ---- all together, in order
 
-    // The first field that the job is refused for.
+    /// The first field that the job is refused for.
     fn field_refusal(&self, crew_allowed: bool, job_name: &str) -> Option<JobField>
         ensures { result ≡ field_refusal crew_allowed job_name.now (drafted self.now) }
     {
@@ -330,7 +330,7 @@ impl Draft {
     }
 }
 
-// Whether the value is this name.
+/// Whether the value is this name.
 fn is_name_of(value: &Value, name: &str) -> bool
     ensures { result ≡ is_name_of name.now (view value.now) }
 {
@@ -340,14 +340,14 @@ fn is_name_of(value: &Value, name: &str) -> bool
     }
 }
 
-// Whether one of the values is this name.
+/// Whether one of the values is this name.
 fn is_among(values: &[Value], name: &str) -> bool
     ensures { result ≡ list_any (λ value. is_name_of name.now (view value)) values.now }
 {
     values.iter().any(|value| is_name_of(value, name))
 }
 
-// What a number that is past the limits of its row is refused as.
+/// What a number that is past the limits of its row is refused as.
 fn param_of(field: JobField) -> Option<ParamField>
     ensures { result ≡ param_of field }
 {

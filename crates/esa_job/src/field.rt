@@ -133,7 +133,7 @@ impl JobField {
         JobField::Mode,
     ];
 
-    // The fields that name a file to read, beside the inputs.
+    /// The fields that name a file to read, beside the inputs.
     pub(crate) const READ: [JobField; 5] = [
         JobField::Keys,
         JobField::Input,
@@ -142,7 +142,7 @@ impl JobField {
         JobField::Coins,
     ];
 
-    // The numbers that have limits of their own, in the order in which these are looked at.
+    /// The numbers that have limits of their own, in the order in which these are looked at.
     pub(crate) const LIMITED: [JobField; 7] = [
         JobField::M,
         JobField::T,
@@ -169,14 +169,14 @@ impl JobField {
         self.row().word
     }
 
-    // The type of the field's value.
+    /// The type of the field's value.
     pub(crate) fn kind(self) -> Kind
         ensures { result ≡ kind_of self }
     {
         self.row().kind
     }
 
-    // The limits of a number that has limits of its own.
+    /// The limits of a number that has limits of its own.
     pub(crate) fn limits(self) -> Option<Limits>
         ensures { result ≡ limits_of self }
     {

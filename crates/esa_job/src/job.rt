@@ -401,7 +401,7 @@ impl Job {
     }
 }
 
-// The form that a number stands for.
+/// The form that a number stands for.
 fn form_numbered(number: u32) -> Form
     requires { (1 ≤ number) × (number ≤ 2) }
     ensures { form_number result ≡ number }

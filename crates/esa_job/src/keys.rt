@@ -68,7 +68,7 @@ impl KeyField {
         }
     }
 
-    // Whether the command needs the key; `shares` says whether an encode job has shares.
+    /// Whether the command needs the key; `shares` says whether an encode job has shares.
     fn is_needed(self, command: Command, shares: bool) -> bool
         ensures { result ≡ needs_key command shares self }
     {
@@ -153,7 +153,7 @@ impl KeyRing {
         }
     }
 
-    // The keys that the command needs, as far as they are there.
+    /// The keys that the command needs, as far as they are there.
     fn of(command: Command, shares: bool, object: &Value) -> KeyRing
         ensures { result ≡ ring_of command shares (view object.now) }
     {
@@ -216,7 +216,7 @@ impl KeyRing {
     }
 }
 
-// A key that is needed: nothing where it isn't there, or is no text of 64 hexadecimal digits.
+/// A key that is needed: nothing where it isn't there, or is no text of 64 hexadecimal digits.
 fn key(command: Command, shares: bool, object: &Value, field: KeyField) -> Option<[u8; 32]>
     ensures { result ≡ key_at command shares (view object.now) field }
 {
@@ -233,7 +233,7 @@ fn is_bad(command: Command, shares: bool, object: &Value, field: KeyField) -> bo
     field.is_needed(command, shares) && key(command, shares, object, field).is_none()
 }
 
-// The first needed key that is missing or ill-typed.
+/// The first needed key that is missing or ill-typed.
 #[tactic(auto, unfolding(crate::specs::Keys::first_bad_key, crate::specs::Keys::key_fields))]
 fn first_bad(command: Command, shares: bool, object: &Value) -> Option<KeyField>
     ensures { result ≡ first_bad_key command shares (view object.now) }

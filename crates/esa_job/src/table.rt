@@ -37,10 +37,10 @@ pub(crate) struct Row {
     pub(crate) limits: Option<Limits>,
 }
 
-// The commands that shuffle, or tell what a shuffle does.
+/// The commands that shuffle, or tell what a shuffle does.
 const SHUFFLES: &[Command] = &[Shuffle, Run, Relay, Plan, Audit];
 
-// A row of a field that has no limits of its own.
+/// A row of a field that has no limits of its own.
 fn plain(
     word: &'static str,
     kind: Kind,
@@ -58,7 +58,7 @@ fn plain(
     }
 }
 
-// A row of a number from a least to a greatest one.
+/// A row of a number from a least to a greatest one.
 fn limited(
     word: &'static str,
     needed: &'static [Command],

@@ -80,21 +80,21 @@ fn is_name(value: &Value) -> bool
     name_in(value).is_some()
 }
 
-// Whether each of the values is a name.
+/// Whether each of the values is a name.
 fn are_names(values: &[Value]) -> bool
     ensures { result ≡ list_all (λ value. is_name (view value)) values.now }
 {
     values.iter().all(is_name)
 }
 
-// Whether these are 1 to 16 names.
+/// Whether these are 1 to 16 names.
 fn is_name_list(values: &[Value]) -> bool
     ensures { result ≡ is_name_list (map view values.now) }
 {
     1 <= values.len() && values.len() <= MOST_INPUTS && are_names(values)
 }
 
-// Whether the value is a list of 1 to 16 names.
+/// Whether the value is a list of 1 to 16 names.
 fn holds_names(value: &Value) -> bool
     ensures { result ≡ holds_names (view value.now) }
 {

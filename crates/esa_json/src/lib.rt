@@ -36,7 +36,7 @@ pub fn read_object(alloc: Global, bytes: &[u8]) -> Result<Option<Value>, AllocEr
     }
 }
 
-// The value, if it is an object.
+/// The value, if it is an object.
 fn only_object(value: Value) -> Option<Value>
     ensures { option_map view result ≡ if_object (view value) }
 {

@@ -46,7 +46,8 @@ pub(crate) fn run_attempt<C: Coins>(
     }
 }
 
-// Drains the stash and compresses, once each bucket was exchanged and no exchange failed, and tells how the attempt ends.
+/// Drains the stash and compresses, once each bucket was exchanged and no exchange failed, and tells how the attempt
+/// ends.
 fn finish(lines: &Lines, attempt: u32, trace: &mut Trace) -> Verdict
     requires few { AreFew lines.now }
     requires room { length trace.old.accesses + (lines.now.p.b + (lines.now.p.b * (lines.now.p.b + 1) + lines.now.p.b)) ≤ trace.old.room }

@@ -66,7 +66,7 @@ pub(crate) fn compress(plan: &Plan, arrived: &[u32], attempt: u32, trace: &mut T
     Verdict::Good
 }
 
-// Imports what belongs in the window of an output bucket, and writes that bucket.
+/// Imports what belongs in the window of an output bucket, and writes that bucket.
 fn put_out(
     plan: &Plan,
     arrived: &[u32],
@@ -95,7 +95,7 @@ fn put_out(
     }
 }
 
-// Imports what belongs in the window of an output bucket.
+/// Imports what belongs in the window of an output bucket.
 fn import_ahead(
     plan: &Plan,
     arrived: &[u32],
@@ -128,7 +128,7 @@ fn import_ahead(
     Verdict::Good
 }
 
-// Imports the next intermediate bucket, for an output bucket. It reads also where it overflows the queue.
+/// Imports the next intermediate bucket, for an output bucket. It reads also where it overflows the queue.
 fn import(
     plan: &Plan,
     arrived: &[u32],
@@ -162,7 +162,7 @@ fn import(
     }
 }
 
-// Reads the chunks and the tail of a target.
+/// Reads the chunks and the tail of a target.
 fn read_import(plan: &Plan, attempt: u32, target: u32, trace: &mut Trace)
     requires target { target < plan.now.b }
     requires room { length trace.old.accesses + (plan.now.b + 1) ≤ trace.old.room }
@@ -179,7 +179,7 @@ fn read_import(plan: &Plan, attempt: u32, target: u32, trace: &mut Trace)
     trace.push(plan.access(attempt, Op::Read, slot));
 }
 
-// Writes an output bucket, unless too few places have come.
+/// Writes an output bucket, unless too few places have come.
 fn put(plan: &Plan, attempt: u32, output: u32, window: Window, trace: &mut Trace) -> Verdict
     requires output { output < plan.now.b }
     requires imported { window.imported ≡ imported plan.now (suc output) }

@@ -53,7 +53,7 @@ impl Distribution {
         self.written = 0;
     }
 
-    // Does what a turn does, and tells the verdict where it fails.
+    /// Does what a turn does, and tells the verdict where it fails.
     fn act<C: Coins>(&mut self, coins: &C, attempt: u32, event: Event) -> Option<Verdict>
         requires plan { C.plan coins.now ≡ self.old.lines.p }
         requires attempt { attempt < self.old.lines.p.attempts }
@@ -94,7 +94,7 @@ impl Distribution {
         }
     }
 
-    // Makes a worker's turn, and tells the verdict where it fails.
+    /// Makes a worker's turn, and tells the verdict where it fails.
     fn turn<C: Coins>(
         &mut self,
         coins: &C,
@@ -159,7 +159,7 @@ impl Distribution {
     }
 }
 
-// Records the access that a turn makes, where it makes one.
+/// Records the access that a turn makes, where it makes one.
 fn ask(plan: &Plan, attempt: u32, event: Event, trace: &mut Trace)
     requires planned { IsPlannedEvent plan.now.b event }
     requires room { length trace.old.accesses < trace.old.room }
@@ -197,7 +197,7 @@ pub(crate) fn chunk_slot(plan: &Plan, bucket: u32, target: u32) -> Slot
     }
 }
 
-// How many chunks are written in an attempt.
+/// How many chunks are written in an attempt.
 fn chunks_of(plan: &Plan) -> u32
     ensures { result ≡ plan.now.b * plan.now.b }
 {

@@ -110,7 +110,7 @@ impl Forecast {
     }
 }
 
-// Writes each block of the input.
+/// Writes each block of the input.
 fn write_input(plan: &Plan, trace: &mut Trace)
     requires { length trace.old.accesses + plan.now.b ≤ trace.old.room }
     ensures { trace.new ≡ with_accesses trace.old (load plan.now) }
@@ -124,7 +124,7 @@ fn write_input(plan: &Plan, trace: &mut Trace)
     }
 }
 
-// Reads each block of the output of an attempt.
+/// Reads each block of the output of an attempt.
 fn read_output(plan: &Plan, attempt: u32, trace: &mut Trace)
     requires { length trace.old.accesses + plan.now.b ≤ trace.old.room }
     ensures { trace.new ≡ with_accesses trace.old (scan plan.now attempt) }

@@ -114,7 +114,7 @@ impl Lines {
     }
 }
 
-// Draws the targets of a bucket to the front of `targets`, and tells how many they are.
+/// Draws the targets of a bucket to the front of `targets`, and tells how many they are.
 fn draw<C: Coins>(
     coins: &C,
     plan: &Plan,
@@ -139,7 +139,7 @@ fn draw<C: Coins>(
     places
 }
 
-// Counts each of the first targets, lets up to `c` places of each target leave, and tells how many stay, all together.
+/// Counts each of the first targets, lets up to `c` places of each target leave, and tells how many stay, all together.
 fn pass(c: u32, targets: &[u32], places: usize, arrived: &mut [u32], gone: &mut [u32]) -> u64
     requires places { places ≤ length targets.now }
     requires each { length arrived.old ≡ length gone.old }
@@ -155,7 +155,7 @@ fn pass(c: u32, targets: &[u32], places: usize, arrived: &mut [u32], gone: &mut 
     leave(c, arrived, gone)
 }
 
-// Counts each target that comes.
+/// Counts each target that comes.
 fn count(targets: &[u32], arrived: &mut [u32])
     requires below { All (λ target. target < length arrived.old) targets.now }
     requires few { (i : ℕ) → i < length arrived.old → slice_index arrived.old i + length targets.now < 2 ^ 32 }
@@ -166,7 +166,7 @@ fn count(targets: &[u32], arrived: &mut [u32])
     }
 }
 
-// Lets up to `c` places of each target leave, and tells how many stay, all together.
+/// Lets up to `c` places of each target leave, and tells how many stay, all together.
 fn leave(c: u32, arrived: &[u32], gone: &mut [u32]) -> u64
     requires each { length arrived.now ≡ length gone.old }
     requires short { length gone.old < 2 ^ 31 }

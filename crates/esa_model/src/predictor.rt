@@ -67,14 +67,14 @@ impl Predictor {
     }
 }
 
-// How many attempts a plan has.
+/// How many attempts a plan has.
 fn attempts(plan: &Plan) -> u32
     ensures { result ≡ plan.now.attempts }
 {
     plan.attempts()
 }
 
-// Fills in the forecast.
+/// Fills in the forecast.
 fn predict<C: Coins>(
     distribution: &mut Distribution,
     forecast: &mut Forecast,

@@ -78,7 +78,7 @@ impl Rounds {
     }
 }
 
-// The phase that comes after one of a round over so many buckets.
+/// The phase that comes after one of a round over so many buckets.
 fn phase_after(b: u32, phase: u32) -> u32
     requires few { b < 2 ^ 31 }
     requires phase { phase < b + 3 }
@@ -88,7 +88,7 @@ fn phase_after(b: u32, phase: u32) -> u32
     if phase + 1 == b + 3 { 0 } else { phase + 1 }
 }
 
-// What a turn does in a phase of the round of a bucket.
+/// What a turn does in a phase of the round of a bucket.
 fn event_of(b: u32, bucket: u32, phase: u32) -> Event
     requires { phase < b + 3 }
     ensures value { result ≡ event_of b bucket phase }

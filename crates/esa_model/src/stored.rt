@@ -36,7 +36,7 @@ impl StoredCoins {
     }
 }
 
-// Whether each target is a bucket.
+/// Whether each target is a bucket.
 fn are_below(targets: &[u32], b: u32) -> bool
     ensures { IsTrue result ↔ All (λ target. target < b) targets.now }
 {

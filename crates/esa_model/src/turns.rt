@@ -79,7 +79,7 @@ impl Turns {
         Turns::read_lines(alloc, bytes, workers, attempts)
     }
 
-    // Reads the lists of a turns file line by line.
+    /// Reads the lists of a turns file line by line.
     #[tactic(auto, using(crate::proofs::TurnLemmas::begun_with_word, crate::proofs::TurnLemmas::workers_begun, crate::proofs::TurnLemmas::none_begun_workers, crate::proofs::Reading::read_all))]
     fn read_lines(
         alloc: Global,

@@ -28,7 +28,7 @@ pub(crate) fn word_of(line: &[u8], workers: u32) -> Option<Word>
     }
 }
 
-// The turn of a worker, where there are so many.
+/// The turn of a worker, where there are so many.
 fn turn_of(worker: u64, workers: u32) -> Option<Word>
     ensures value { result ≡ turn_of workers worker }
     ensures turn { IfSome result (IsTurnOf workers) }

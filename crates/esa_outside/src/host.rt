@@ -129,7 +129,7 @@ impl<R: Print + Drop> Printer for HostPrinter<R> {
     }
 }
 
-// Counts a fault where the machine answered an error.
+/// Counts a fault where the machine answered an error.
 fn counted<T: Drop>(faults: &mut u64, answer: io::Result<T>) -> Result<T, Failed>
     ensures { HasCause faults.old faults.new ⊥ result }
 {

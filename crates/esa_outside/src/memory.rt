@@ -207,7 +207,7 @@ impl Cabinet for MemCabinet {
     }
 }
 
-// The place of the first file of this name.
+/// The place of the first file of this name.
 fn place_of(files: &[File], name: &str) -> Option<usize>
     ensures found { IfSome result (IsFirstOf name.now files.now) }
     ensures none { IfNone result (All (λ file. string_bytes file.0 ≢ name.now) files.now) }
@@ -215,7 +215,7 @@ fn place_of(files: &[File], name: &str) -> Option<usize>
     files.iter().position(|file| file.0.as_str() == name)
 }
 
-// What the file of this name holds.
+/// What the file of this name holds.
 fn find<'a>(files: &'a [File], name: &str) -> Option<&'a [u8]>
     ensures { option_copied result ≡ map.get (files_of files.now) name.now }
 {
@@ -225,7 +225,7 @@ fn find<'a>(files: &'a [File], name: &str) -> Option<&'a [u8]>
     }
 }
 
-// Fills `out` with the bytes from the place `at` on, unless they end before.
+/// Fills `out` with the bytes from the place `at` on, unless they end before.
 fn copy_part(held: &[u8], at: u64, out: &mut [u8]) -> Result<(), Failed>
     ensures bytes { OnOk result (IsPart (Some held.now) at out.new) }
     ensures failed { IsErr result ↔ EndsBefore (Some held.now) (at + length out.old) }
@@ -238,7 +238,7 @@ fn copy_part(held: &[u8], at: u64, out: &mut [u8]) -> Result<(), Failed>
     Ok(())
 }
 
-// Puts bytes in the place of those of a file.
+/// Puts bytes in the place of those of a file.
 fn replace(file: &mut File, bytes: Vec<u8>)
     ensures name { string_bytes file.new.0 ≡ string_bytes file.old.0 }
     ensures bytes { file.new.1.items ≡ bytes.items }
@@ -246,7 +246,7 @@ fn replace(file: &mut File, bytes: Vec<u8>)
     file.1 = bytes;
 }
 
-// Puts a file in the place of what its name held.
+/// Puts a file in the place of what its name held.
 fn lay(alloc: Global, files: &mut Vec<File>, name: &str, bytes: Vec<u8>) -> Result<(), AllocError>
     ensures ok { OnOk result (files_of files.new.items ≡ map.insert (files_of files.old.items) name.now bytes.items) }
     ensures err { OnErr result (files_of files.new.items ≡ files_of files.old.items) }
@@ -264,14 +264,14 @@ fn lay(alloc: Global, files: &mut Vec<File>, name: &str, bytes: Vec<u8>) -> Resu
     }
 }
 
-// Why no bytes were added to a file.
+/// Why no bytes were added to a file.
 #[derive(Clone, Copy)]
 enum NotExtended {
     Absent,
     NoMemory,
 }
 
-// Adds bytes at a file's end.
+/// Adds bytes at a file's end.
 fn grow(file: &mut File, bytes: &[u8]) -> Result<(), AllocError>
     ensures name { string_bytes file.new.0 ≡ string_bytes file.old.0 }
     ensures ok { OnOk result (file.new.1.items ≡ file.old.1.items ++ bytes.now) }
@@ -280,7 +280,7 @@ fn grow(file: &mut File, bytes: &[u8]) -> Result<(), AllocError>
     file.1.extend_from_slice(bytes)
 }
 
-// Adds bytes at the end of the file of this name.
+/// Adds bytes at the end of the file of this name.
 fn extend(files: &mut Vec<File>, name: &str, bytes: &[u8]) -> Result<(), NotExtended>
     ensures added { (held : List ℕ) → map.get (files_of files.old.items) name.now ≡ Some held
         → OnOk result (files_of files.new.items ≡ map.insert (files_of files.old.items) name.now (held ++ bytes.now)) }

@@ -98,7 +98,7 @@ impl Printer for MemPrinter {
     }
 }
 
-// Adds a text and a newline, or a front of that where there is no memory.
+/// Adds a text and a newline, or a front of that where there is no memory.
 fn print(printed: &mut Vec<u8>, text: &[u8]) -> Result<(), Failed>
     ensures ok { OnOk result (printed.new.items ≡ printed.old.items ++ line_of text.now) }
     ensures err { OnErr result (AddsFront printed.old.items (line_of text.now) (Some printed.new.items)) }

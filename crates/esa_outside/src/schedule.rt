@@ -63,7 +63,7 @@ impl Schedule {
         listed
     }
 
-    // Counts a fault.
+    /// Counts a fault.
     fn fault(&mut self)
         ensures fault { self.new ≡ faulted self.old }
         ensures later { self.old.faults ≤ self.new.faults }

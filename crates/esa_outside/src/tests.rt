@@ -14,7 +14,7 @@ enum Call {
     Append(&'static str, &'static [u8]),
 }
 
-// Makes a call, and answers whether it was done. A read takes two bytes.
+/// Makes a call, and answers whether it was done. A read takes two bytes.
 fn is_done<K: Cabinet>(cabinet: &mut K, call: Call, two: &mut [u8; 2]) -> bool {
     match call {
         Call::Length(name) => cabinet.length(name).is_ok(),
@@ -24,7 +24,7 @@ fn is_done<K: Cabinet>(cabinet: &mut K, call: Call, two: &mut [u8; 2]) -> bool {
     }
 }
 
-// Makes the calls of a table.
+/// Makes the calls of a table.
 fn run<K: Cabinet>(
     rt: &impl Abort,
     cabinet: &mut K,
@@ -38,15 +38,15 @@ fn run<K: Cabinet>(
     }
 }
 
-// Prints a line, and answers whether it was done.
+/// Prints a line, and answers whether it was done.
 fn is_printed<P: Printer>(printer: &mut P, text: &[u8]) -> bool {
     printer.line(text).is_ok()
 }
 
-// A file in the folder that the tests run in.
+/// A file in the folder that the tests run in.
 const NAME: &str = "esa-outside-test";
 
-// Each row has the call, whether it is done, and the faults after it.
+/// Each row has the call, whether it is done, and the faults after it.
 const MACHINE: [(Call, bool, u64); 9] = [
     (Call::Start(NAME), true, 0),
     (Call::Length(NAME), true, 0),

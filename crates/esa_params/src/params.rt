@@ -32,7 +32,7 @@ pub struct Params {
 }
 
 impl Params {
-    // The first of b, c, s, k, w, q, mid, workers and attempts that is past its limits.
+    /// The first of b, c, s, k, w, q, mid, workers and attempts that is past its limits.
     fn first_past(&self) -> Option<ParamField>
         ensures { result ≡ first_past self.now }
     {
@@ -181,7 +181,7 @@ pub fn check(params: &Params) -> Result<Settings, ParamsRefused>
     }
 }
 
-// A number is from a least to a greatest one.
+/// A number is from a least to a greatest one.
 fn is_from(number: u64, least: u64, greatest: u64) -> bool
     ensures { result ≡ is_from number least greatest }
 {

@@ -155,7 +155,7 @@ impl Plan {
         self.n.min((b + 1) * self.share()) - self.first(b)
     }
 
-    // The places of a bucket that is full.
+    /// The places of a bucket that is full.
     fn share(&self) -> u32
         ensures value { result ≡ share self.now }
         ensures limits { ArePlanned self.now }
@@ -270,7 +270,7 @@ impl Plan {
         3 * self.b + self.attempts * (2 * self.b * self.b + 4 * self.b)
     }
 
-    // The region of the block that has a number.
+    /// The region of the block that has a number.
     fn region(&self, number: u32) -> Region
         ensures { result ≡ (slot_at self.now number).region }
     {
@@ -285,7 +285,7 @@ impl Plan {
         }
     }
 
-    // The number of the first block of a region.
+    /// The number of the first block of a region.
     fn start(&self, region: Region) -> u32
         ensures value { result ≡ start self.now region }
         ensures limits { ArePlanned self.now }
@@ -298,14 +298,14 @@ impl Plan {
         }
     }
 
-    // The length of an item: its kind in one byte, and the body.
+    /// The length of an item: its kind in one byte, and the body.
     fn item(&self) -> u32
         ensures { result ≡ item_length self.now.form }
     {
         self.form.body() + 1
     }
 
-    // Where a region begins, in bytes.
+    /// Where a region begins, in bytes.
     #[tactic(auto, using(crate::proofs::Offsets::regions))]
     fn region_offset(&self, region: Region) -> u64
         ensures value { result ≡ offset_at self.now (start self.now region) }
@@ -323,7 +323,7 @@ impl Plan {
         }
     }
 
-    // The lengths of the blocks before a slot in its region, together.
+    /// The lengths of the blocks before a slot in its region, together.
     #[tactic(auto, using(crate::proofs::Offsets::insides))]
     fn offset_inside(&self, slot: Slot) -> u64
         requires { IsPlanned self.now slot }

@@ -84,7 +84,7 @@ pub fn add_refusal(line: &mut Line, refusal: &Refusal)
     }
 }
 
-// Adds two words.
+/// Adds two words.
 fn add_pair(line: &mut Line, first: &str, second: &str)
     requires line { length line.old ≤ 20 }
     requires first { length first.now ≤ 20 }
@@ -95,7 +95,7 @@ fn add_pair(line: &mut Line, first: &str, second: &str)
     line.word(second);
 }
 
-// Adds a word and a number.
+/// Adds a word and a number.
 pub fn add_numbered(line: &mut Line, word: &str, number: u64)
     requires line { length line.old ≤ 80 }
     requires word { length word.now ≤ 20 }
@@ -106,7 +106,7 @@ pub fn add_numbered(line: &mut Line, word: &str, number: u64)
     line.number(number);
 }
 
-// Adds what a file that ends too early is told.
+/// Adds what a file that ends too early is told.
 fn add_cut(line: &mut Line, cut: &Cut)
     requires { length line.old ≤ 40 }
     ensures { line.new ≡ line.old ++ cut_text cut.now }
@@ -115,7 +115,7 @@ fn add_cut(line: &mut Line, cut: &Cut)
     add_numbered(line, " have ", cut.have);
 }
 
-// Adds what is wrong with a forward file.
+/// Adds what is wrong with a forward file.
 fn add_forward(line: &mut Line, refused: &ForwardRefused)
     requires { length line.old ≤ 20 }
     ensures { line.new ≡ line.old ++ (codes "forward " ++ forward_text refused.now) }
@@ -132,7 +132,7 @@ fn add_forward(line: &mut Line, refused: &ForwardRefused)
     }
 }
 
-// Adds what is wrong with a database file.
+/// Adds what is wrong with a database file.
 fn add_database(line: &mut Line, refused: &DbRefused)
     requires { length line.old ≤ 20 }
     ensures { line.new ≡ line.old ++ (codes "database " ++ database_text refused.now) }
@@ -150,7 +150,7 @@ fn add_database(line: &mut Line, refused: &DbRefused)
     }
 }
 
-// Adds what is wrong with coins.
+/// Adds what is wrong with coins.
 fn add_coins(line: &mut Line, refused: &CoinsRefused)
     requires { length line.old ≤ 20 }
     ensures { line.new ≡ line.old ++ (codes "coins " ++ coins_text refused.now) }
@@ -165,7 +165,7 @@ fn add_coins(line: &mut Line, refused: &CoinsRefused)
     }
 }
 
-// Adds what is wrong with a batch.
+/// Adds what is wrong with a batch.
 fn add_batch(line: &mut Line, refused: &BatchRefused)
     requires { length line.old ≤ 20 }
     ensures { line.new ≡ line.old ++ (codes "batch " ++ batch_text refused.now) }
@@ -184,7 +184,7 @@ fn add_batch(line: &mut Line, refused: &BatchRefused)
     }
 }
 
-// Adds a word and two numbers.
+/// Adds a word and two numbers.
 fn add_two(line: &mut Line, word: &str, first: u32, second: u32)
     requires line { length line.old ≤ 40 }
     requires word { length word.now ≤ 20 }
@@ -194,7 +194,7 @@ fn add_two(line: &mut Line, word: &str, first: u32, second: u32)
     add_numbered(line, " ", u64::from(second));
 }
 
-// The word of a cause.
+/// The word of a cause.
 fn word_of_cause(cause: LineCause) -> &'static str
     ensures word { result.now ≡ cause_word cause }
     ensures short { length result.now ≤ 20 }
@@ -208,7 +208,7 @@ fn word_of_cause(cause: LineCause) -> &'static str
     }
 }
 
-// Adds in which file a line is refused, which line, and why.
+/// Adds in which file a line is refused, which line, and why.
 fn add_file(line: &mut Line, file: u32, refused: &LineRefused)
     requires { length line.old ≤ 20 }
     ensures { line.new ≡ line.old ++ file_text file refused.now }
@@ -218,7 +218,7 @@ fn add_file(line: &mut Line, file: u32, refused: &LineRefused)
     add_line(line, refused);
 }
 
-// Adds which line is refused, and why.
+/// Adds which line is refused, and why.
 fn add_line(line: &mut Line, refused: &LineRefused)
     requires { length line.old ≤ 60 }
     ensures { line.new ≡ line.old ++ line_text refused.now }

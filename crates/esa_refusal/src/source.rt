@@ -45,7 +45,7 @@ impl Source {
     }
 }
 
-// The most bytes of an input file.
+/// The most bytes of an input file.
 fn most_input(command: Command) -> u64
     ensures { result ≡ input_limit command }
 {

@@ -9,7 +9,7 @@ use esa_report::Item;
 use std::alloc::{AllocError, Global};
 use std::marker::Model;
 
-// The list of the free cells. List `i + 1` has those of chain i.
+/// The list of the free cells. List `i + 1` has those of chain i.
 const FREE: usize = 0;
 
 /// An arena of a fixed number of cells: each cell is free, or stands in one of a fixed number of chains and holds an

@@ -36,7 +36,7 @@ pub fn deal(
     }
 }
 
-// Deals out the queues alone.
+/// Deals out the queues alone.
 fn deal_queues(cells: &mut Cells, c: u32, chunks: &mut [Item], counts: &mut [u32])
     requires chains { length cells.old.chains ≡ length counts.old }
     requires small { length counts.old < 2 ^ 32 }
@@ -53,7 +53,7 @@ fn deal_queues(cells: &mut Cells, c: u32, chunks: &mut [Item], counts: &mut [u32
     }
 }
 
-// Deals out one more item: to its target's chunk where a place is left, and else behind the queue.
+/// Deals out one more item: to its target's chunk where a place is left, and else behind the queue.
 fn deal_item(
     cells: &mut Cells,
     c: u32,

@@ -96,14 +96,14 @@ impl Links {
     }
 }
 
-// So many cells, each followed by the next number.
+/// So many cells, each followed by the next number.
 fn chained(alloc: Global, cells: u32) -> Result<Vec<u32>, AllocError>
     ensures { IfOk result (λ next. next.items ≡ map (λ cell. cell + 1) (range_with_len 0 cells)) }
 {
     (0..cells).map(|cell| cell + 1).collect(alloc)
 }
 
-// The ends of a list of so many cells from 0 on, and of so many empty lists.
+/// The ends of a list of so many cells from 0 on, and of so many empty lists.
 fn first_full(alloc: Global, lists: u32, cells: u32) -> Result<Vec<Ends>, AllocError>
     ensures { IfOk result (λ ends. ends.items ≡ rising_ends cells ∷ replicate lists no_ends) }
 {
@@ -121,7 +121,7 @@ fn first_full(alloc: Global, lists: u32, cells: u32) -> Result<Vec<Ends>, AllocE
     Ok(ends)
 }
 
-// Links a cell behind a list.
+/// Links a cell behind a list.
 fn appended(next: &mut Vec<u32>, ends: Ends, cell: u32) -> Ends
     requires last { 0 < ends.length → ends.last < vec_len next.old }
     requires fits { ends.length + 1 < 2 ^ 32 }

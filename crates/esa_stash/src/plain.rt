@@ -10,7 +10,7 @@ use std::alloc::{AllocError, Global};
 use std::process::Abort;
 use std::test::Fail;
 
-// Pairs of target and item, in the order in which they came.
+/// Pairs of target and item, in the order in which they came.
 #[derive(Drop)]
 struct Plain {
     chunk: usize,
@@ -19,7 +19,7 @@ struct Plain {
 }
 
 impl Plain {
-    // What leaves in an exchange, or how many would stay.
+    /// What leaves in an exchange, or how many would stay.
     fn exchange(
         &mut self,
         alloc: Global,
@@ -47,7 +47,7 @@ impl Plain {
     }
 }
 
-// The items of each target's pairs, with dummies up to the length of a chunk.
+/// The items of each target's pairs, with dummies up to the length of a chunk.
 fn laid_out(
     alloc: Global,
     pairs: &[(u32, Item)],
@@ -72,12 +72,12 @@ fn count(pairs: &[(u32, Item)], target: u32) -> usize {
     pairs.iter().filter(|pair| pair.0 == target).count()
 }
 
-// The next of a row of numbers that look drawn.
+/// The next of a row of numbers that look drawn.
 fn drawn(seed: u32) -> u32 {
     seed.wrapping_mul(1664525).wrapping_add(1013904223)
 }
 
-// So many targets below a limit.
+/// So many targets below a limit.
 pub fn drawn_targets(
     alloc: Global,
     mut seed: u32,
@@ -95,7 +95,7 @@ pub fn drawn_targets(
     Ok(targets)
 }
 
-// One exchange with both, which must give the same. Its items have its turn and their place.
+/// One exchange with both, which must give the same. Its items have its turn and their place.
 fn exchange_both(
     rt: &impl Abort,
     alloc: Global,
@@ -145,7 +145,7 @@ fn exchange_both(
     Ok(())
 }
 
-// Exchanges of up to so many items, one after another.
+/// Exchanges of up to so many items, one after another.
 fn run_both(
     rt: &impl Abort,
     alloc: Global,
@@ -178,7 +178,7 @@ fn run_both(
     Ok(())
 }
 
-// Three hundred exchanges, over shapes with no places, no room, one target, and enough of all.
+/// Three hundred exchanges, over shapes with no places, no room, one target, and enough of all.
 #[test]
 fn two_stashes(rt: HostRuntime) -> Result<(), Fail> {
     let alloc = rt.alloc();

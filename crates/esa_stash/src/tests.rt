@@ -6,7 +6,7 @@ use esa_report::{Item, Kind};
 use std::alloc::{AllocError, Global};
 use std::test::Fail;
 
-// A real item with a number, which isn't 0.
+/// A real item with a number, which isn't 0.
 pub fn real(number: u8) -> Item {
     Item {
         kind: Kind::Real,
@@ -14,7 +14,7 @@ pub fn real(number: u8) -> Item {
     }
 }
 
-// The stash of the four records of the worked shuffle, at each room for queued items.
+/// The stash of the four records of the worked shuffle, at each room for queued items.
 #[test]
 fn four_records(rt: HostRuntime) -> Result<(), Fail> {
     for room in [2, 1] {
@@ -32,7 +32,7 @@ fn four_records(rt: HostRuntime) -> Result<(), Fail> {
     Ok(())
 }
 
-// An exchange of as many items as the largest batch has, all for one target.
+/// An exchange of as many items as the largest batch has, all for one target.
 fn exchange_largest(alloc: Global, room: u32) -> Result<Result<(), Overflow>, AllocError> {
     let mut stash = Stash::make(alloc, 1, 1, room)?;
     let targets = drawn_targets(alloc, 0, 262_144, 1)?;
@@ -42,7 +42,7 @@ fn exchange_largest(alloc: Global, room: u32) -> Result<Result<(), Overflow>, Al
     Ok(stash.exchange(&targets, &items, &mut chunks, &mut counts))
 }
 
-// One of the items leaves, and the stash has room for the others or for one fewer.
+/// One of the items leaves, and the stash has room for the others or for one fewer.
 #[test]
 fn largest_batch(rt: HostRuntime) -> Result<(), Fail> {
     let alloc = rt.alloc();

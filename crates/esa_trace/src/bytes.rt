@@ -5,7 +5,7 @@ ghost use Rattle.esa_spec.specs.Files.{op_code, region_code, access_bytes, trace
 
 use esa_params::{Access, Op, Region};
 
-// An operation by number.
+/// An operation by number.
 fn code_of_op(op: Op) -> u8
     ensures { result ≡ op_code op }
 {
@@ -15,7 +15,7 @@ fn code_of_op(op: Op) -> u8
     }
 }
 
-// A region by number.
+/// A region by number.
 fn code_of_region(region: Region) -> u8
     ensures { result ≡ region_code region }
 {

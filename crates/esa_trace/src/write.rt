@@ -13,7 +13,7 @@ use esa_outside::{Cabinet, Failed};
 use esa_page::Page;
 use esa_params::Access;
 
-// Puts the accesses behind the bytes that wait in the page.
+/// Puts the accesses behind the bytes that wait in the page.
 fn put_accesses<K: Cabinet>(
     accesses: &[Access],
     page: &mut Page,

@@ -25,21 +25,21 @@ fn count(roll: &Roll, number: u32) -> usize {
     roll.entries().iter().filter(|x| **x == number).count()
 }
 
-// The value, which may go to another thread.
+/// The value, which may go to another thread.
 fn sent<T: Send>(value: T) -> T
     ensures { result ≡ value }
 {
     value
 }
 
-// The value, which threads may share.
+/// The value, which threads may share.
 fn shared<T: Sync>(value: T) -> T
     ensures { result ≡ value }
 {
     value
 }
 
-// Whatever the value is: threads share its turnstile and take its passes along, where it may go from one to another.
+/// Whatever the value is: threads share its turnstile and take its passes along, where it may go from one to another.
 fn crossed<T: Logged + Send>(turnstile: Turnstile<T>, pass: Pass<T>) -> (Turnstile<T>, Pass<T>)
     ensures { result ≡ (turnstile, pass) }
 {

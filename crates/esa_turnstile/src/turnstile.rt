@@ -14,7 +14,7 @@ use crate::view::{About, View};
 use atomic_table::Table;
 use std::alloc::Global;
 
-// The next ticket to be drawn, and the ticket that is served.
+/// The next ticket to be drawn, and the ticket that is served.
 const NEXT: usize = 0;
 
 const SERVED: usize = 1;

@@ -34,7 +34,7 @@ impl<T: Logged> Turnstile<T> {
         self.open(seat)
     }
 
-    // One seat that stands for all passes.
+    /// One seat that stands for all passes.
     fn gather(&self, mut passes: Vec<Pass<T>>) -> Place<T>
         requires count { length passes.items ≡ passes_of self.now }
         requires passes { All (λ p. IsPassOf self.now p × IsOutside p) passes.items }
@@ -53,7 +53,7 @@ impl<T: Logged> Turnstile<T> {
         seat
     }
 
-    // A seat that stands for this pass, and has heard of what it had seen.
+    /// A seat that stands for this pass, and has heard of what it had seen.
     fn first(&self, pass: Pass<T>) -> Place<T>
         requires pass { IsPassOf self.now pass × IsOutside pass }
         ensures table { IsSeatOf self.now result }
@@ -77,7 +77,7 @@ impl<T: Logged> Turnstile<T> {
         self.join(seat, pass.into_seat());
     }
 
-    // Nobody else has a seat.
+    /// Nobody else has a seat.
     fn open(self, seat: Place<T>) -> T
         requires table { IsSeatOf self seat }
         requires outside { seat.me.0.stage ≡ Outside }

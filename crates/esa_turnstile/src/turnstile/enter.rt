@@ -15,7 +15,7 @@ use crate::plays::{Draw, Look};
 use std::hint;
 use std::sync::Wait;
 
-// How often a thread looks before it sleeps.
+/// How often a thread looks before it sleeps.
 const SPINS: u32 = 100;
 
 impl<T: Logged> Turnstile<T> {
@@ -78,7 +78,7 @@ impl<T: Logged> Turnstile<T> {
         unreachable!()
     }
 
-    // The value, where the ticket is served. Else the ticket that is.
+    /// The value, where the ticket is served. Else the ticket that is.
     fn look(&self, seat: &mut Place<T>, ticket: u64) -> Result<T, u64>
         requires table { IsSeatOf self.now seat.old }
         requires waits { (seat.old.me.0.stage ≡ Waiting ticket) × (seat.old.me.1 ≡ []) }
@@ -96,7 +96,7 @@ impl<T: Logged> Turnstile<T> {
         Ok(value.unwrap())
     }
 
-    // Spins at first, and then sleeps while this ticket is served. Returns how often it has spun.
+    /// Spins at first, and then sleeps while this ticket is served. Returns how often it has spun.
     fn pause<R: Wait>(&self, rt: &R, spins: u32, serving: u64) -> u32 {
         if spins < SPINS {
             hint::spin_loop();

@@ -61,7 +61,7 @@ impl<T: Logged> Turnstile<T> {
         }
     }
 
-    // The passes in the order of their numbers.
+    /// The passes in the order of their numbers.
     fn deal_all(&self, seat: &mut Place<T>, passes: u32, dealt: &mut Vec<Pass<T>>)
         requires table { IsSeatOf self.now seat.old }
         requires whole { passes ≡ passes_of self.now }

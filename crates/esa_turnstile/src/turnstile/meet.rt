@@ -30,7 +30,7 @@ impl<T: Logged> Turnstile<T> {
         self.hear(&mut into.seat);
     }
 
-    // A seat that has seen as much, and stands for no pass.
+    /// A seat that has seen as much, and stands for no pass.
     pub(super) fn note(&self, seat: &mut Place<T>) -> Place<T>
         requires table { IsSeatOf self.now seat.old }
         requires outside { seat.old.me.0.stage ≡ Outside }
