@@ -30,6 +30,7 @@ STEPS = [
     ("run", "run", {"keys": "keys.json", "input": "batch", "output": "database", "trace": "made", "turns_out": "turns",
                     "drops": "drops", "m": 100, "t": 20, **SHUFFLE}),
     ("run", "two_run", {"keys": "keys.json", "input": "batch2", "output": "database2", "m": 100, "t": 20, **SHUFFLE}),
+    ("shuffle", "shuffle", {"keys": "keys.json", "input": "batch", "output": "handed_on", "m": 100, "t": 20, **SHUFFLE}),
     ("analyse", "analyse", {"keys": "demo_keys.json", "input": "forward", "output": "counted"}),
     ("histogram", "histogram", {"input": "counted"}),
     ("upgrade", "upgrade", {"input": "counted", "output": "upgraded"}),

@@ -10,12 +10,25 @@ use esa_outside::{HostCabinet, HostPrinter};
 use std::alloc::AllocError;
 use std::env;
 use std::fs::File;
-use std::io::ErrorKind;
+use std::io::{self, ErrorKind};
 use std::process::ExitCode;
 use std::rt::{Env, Files};
 
 /// The file that has the external memory of a shuffle.
 const DEVICE: &str = "esa-device.bin";
+
+/// What is opened in the place of a standard stream that is closed.
+const NOTHING: &str = "/dev/null";
+
+/// Opens files before all others, so that none of those gets the number of a standard stream that is closed: its lines
+/// would be written over that file. They are opened for reading, and who prints without a standard output is told so.
+fn hold_streams<R: Files<File = File>>(rt: &R) -> [io::Result<File>; 3] {
+    [
+        File::open(rt, NOTHING),
+        File::open(rt, NOTHING),
+        File::open(rt, NOTHING),
+    ]
+}
 
 /// The words after the program's name. Words that are no text are no words of a command line.
 fn words(rt: &(impl Env + AllocGlobal)) -> Result<Vec<String>, AllocError> {
@@ -39,6 +52,7 @@ fn device<R: Files<File = File> + AllocGlobal + Clone + Drop>(
 }
 
 fn main(rt: HostRuntime) -> ExitCode {
+    let _streams = hold_streams(&rt);
     let mut cabinet = HostCabinet::make(&rt);
     let mut printer = HostPrinter::make(&rt);
     let status = match (words(&rt), device(&rt)) {
