@@ -66,8 +66,8 @@ abbrev pub WritesBy : Status → List Carried → Type 0
 WritesBy (status.DeviceFault at) log = OnlyLastFailed log
 WritesBy owed log = NoWriteFailed log
 
--- however a shuffle ended: where the log of all its accesses is faithful, each write took the block that the turns of its
--- attempt make of the records of the batch
+-- however a shuffle ended: where the log of all its accesses is faithful, each write outside the input took the block that
+-- the turns of its attempt make of the records of the batch
 pub record Became (asked : Asked) (given history : List ℕ) (log : List Carried) (owed : Status) : Type 0 where
   pub took : IsFaithful (sizes_in asked) log
       → All (TookItsBlock (sizes_in asked) (block_keys asked) asked.draws (batch_record asked given) (turns_at (lists (sizes_in asked).workers history))) log
@@ -79,9 +79,9 @@ pub record Became (asked : Asked) (given history : List ℕ) (log : List Carried
 abbrev pub kept_of : Asked → List Item → List (List ℕ)
 kept_of asked records = forward asked.batch.form (drop_key asked) asked.drops (number_of asked.job field.T) records
 
--- the records of the batch came out of an attempt, none lost or doubled, in the order of the definition. Both scans of the
--- output were given them. The envelopes are what is kept of them, and their database is that of what is kept of the batch by
--- place
+-- the load was given the whole batch. Its records came out of an attempt, none lost or doubled, in the order of the
+-- definition, and both scans of the output were given them. The envelopes are what is kept of them, and their database is that
+-- of what is kept of the batch by place, whoever opens them
 pub record AreOfBatch (asked : Asked) (attempt : ℕ) (given : List ℕ) (first second envelopes : List (List ℕ)) : Type 0 where
   pub whole : length given ≡ envelope_length asked.batch.form * asked.batch.count
   pub out : List Item
