@@ -12,7 +12,7 @@ use Rattle.esa_running.specs.ComingOut.{Became}
 use Rattle.esa_running.specs.Run.{Asked}
 use Rattle.esa_running.specs.RunOwes.{HasEnded, RunOwes}
 
--- the history: none where no batch was loaded
+-- the history: none where the load was not begun
 abbrev pub history_in : Option (List ℕ) → List ℕ
 history_in None = []
 history_in (Some history) = history

@@ -42,7 +42,7 @@ pub struct Ended<V: Device> {
     pub end: End,
     /// The recorder, with all accesses that were made.
     pub recorder: Recorder<V>,
-    /// The turns of the attempts, and the owner's entries. There is none where no batch was loaded.
+    /// The turns of the attempts, and the owner's entries. There is none where the load was not begun.
     pub history: Option<History>,
 }
 
