@@ -1,4 +1,5 @@
 mod Attempting
 mod Between
 mod Fronting
+mod Opening
 mod Posting

@@ -8,6 +8,9 @@
 
 mod attempt;
 mod attempts;
+mod crew;
 mod parallel;
 mod runs;
 mod tools;
+
+pub use crew::run_crew;

@@ -1,0 +1,34 @@
+-- A floor on which nothing was done, as a turnstile gets it, and what is said of a run on it.
+use Rattle.std.proofs.Common.{◌≡◌, ℕ, List, map, None, subst}
+use Rattle.esa_device.specs.Logs.{Carried}
+use Rattle.esa_device.specs.Recording.{Recorded}
+use Rattle.esa_envelope.specs.declared.keys.Keys.{Keys}
+use Rattle.esa_params.specs.Sizes.{Sizes}
+use Rattle.esa_spec.specs.Draws.{Draw}
+use Rattle.esa_spec.specs.Histories.{lists}
+use Rattle.esa_spec.specs.declared.event.Verdict.{Verdict}
+use Rattle.esa_floor.specs.Parts.{Parts}
+use Rattle.esa_floor.specs.Standing.{Stands}
+use Rattle.esa_floor.specs.Trails.{IsKept}
+use Rattle.esa_floor.specs.declared.turn.Outcome.{Outcome}
+use Rattle.esa_shuffle.specs.Runs.{EndsRun, opens_last, seen_of}
+
+-- where no attempt is at work, nothing has to be held
+pub kept_idle : {V : Type 0} (faults : V → ℕ) (p : Sizes) (ds : ℕ → Draw) (f : Parts V) → Stands faults p ds f → f.attempt ≡ None
+    → map (λ (entry : Carried). entry.access) f.recorder.log ≡ f.recorder.trace → IsKept faults p ds f
+kept_idle faults p ds f stands idle logged = record {
+  stands = stands;
+  logged = logged;
+  queues = λ record_of input some. absurd (some idle);
+  slots = λ record_of input some. absurd (some idle);
+}
+
+-- how a run ended is said of a plan, a key and a count of faults that are the floor's
+pub ends_same : {V : Type 0} (faults : V → ℕ) (ds : ℕ → Draw) (p plan : Sizes) (run key : Keys) (count number before now : ℕ) (recorder : Recorded V) (history : List ℕ) (failures : List Verdict) (o : Outcome)
+    → p ≡ plan → run ≡ key → count ≡ number
+    → EndsRun p ds (lists p.workers history) (seen_of faults count before recorder history now) (opens_last p run recorder.last) failures o
+    → EndsRun plan ds (lists plan.workers history) (seen_of faults number before recorder history now) (opens_last plan key recorder.last) failures o
+ends_same faults ds p plan run key count number before now recorder history failures o same keys counts ends =
+    subst (λ (q : Sizes). EndsRun q ds (lists q.workers history) (seen_of faults number before recorder history now) (opens_last q key recorder.last) failures o) same
+    (subst (λ (k : Keys). EndsRun p ds (lists p.workers history) (seen_of faults number before recorder history now) (opens_last p k recorder.last) failures o) keys
+    (subst (λ (n : ℕ). EndsRun p ds (lists p.workers history) (seen_of faults n before recorder history now) (opens_last p run recorder.last) failures o) counts ends))
