@@ -2,6 +2,7 @@ mod BatchSteps
 mod Fitting
 mod Forwarded
 mod Joining
+mod Modes
 mod Needed
 mod RanEnds
 mod Rooms
@@ -10,4 +11,5 @@ mod ScanEnds
 mod SentLaws
 mod Shuffled
 mod Stages
+mod Turned
 mod TurnsLaws

@@ -1,11 +1,10 @@
 //! The commands run and shuffle: a batch is shuffled, and what comes out of it is counted or handed on.
 
 ghost use Rattle.std.specs.Prelude.{◌≡◌, ◌+◌, ◌≤◌, ℕ, [], length, false, Some, IfOk, IfErr, MatchResult};
+ghost use Rattle.esa_job.specs.Refusal.{runs_crew};
 ghost use Rattle.esa_job.specs.Seen.{request_of};
-ghost use Rattle.esa_model.specs.Forecast.{made};
 ghost use Rattle.esa_params.specs.Slots.{greatest_trace};
-ghost use Rattle.esa_shuffle.specs.Runs.{EndsRun, opens_last, seen_of};
-ghost use Rattle.esa_shuffling.specs.Drawn.{draws_of};
+ghost use Rattle.esa_shuffle.specs.Runs.{seen_of};
 ghost use Rattle.esa_command.specs.Ends.{EndsBy};
 ghost use Rattle.esa_command.specs.Stand.{stand};
 ghost use Rattle.esa_command.specs.Taking.{name_of};
@@ -15,11 +14,12 @@ ghost use Rattle.esa_running.specs.Run.{IsInside, run_steps};
 ghost use Rattle.esa_running.specs.RunEnded.{HasActed, HasWorked, IsIdle, history_in};
 ghost use Rattle.esa_running.specs.RunOwes.{EndsShuffle, RunOwes};
 ghost use Rattle.esa_running.specs.RunTaken.{IsTaken, run_taken};
-ghost use Rattle.esa_running.specs.Wanted.{block_keys};
+ghost use Rattle.esa_running.specs.Wanted.{HasFewAttempts};
 
 use crate::ending::work_ended;
 use crate::input::{RunInput, take_run};
 use crate::purpose::Purpose;
+use crate::shuffle_mode::shuffle_by_turns;
 use crate::working::{Store, store_for};
 use esa_batcher::BatchFile;
 use esa_command::settle_failed;
@@ -28,7 +28,7 @@ use esa_floor::History;
 use esa_job::JobField;
 use esa_outside::{Cabinet, Printer};
 use esa_refusal::{DeviceAt, End, Status};
-use esa_shuffle::{NoRun, Ran, run_turns};
+use esa_shuffle::{NoRun, Ran};
 use std::alloc::Global;
 
 /// How a shuffle ended, and what it leaves beside its files and lines.
@@ -48,14 +48,15 @@ fn shuffle_batch<K: Cabinet, V: Device>(
     recorder: Recorder<V>,
     input: &RunInput,
 ) -> Result<Ran<V>, NoRun<V>>
+    requires mode { runs_crew (request_of input.now.job) ≡ false }
     requires taken { IsTaken input.now }
     requires inside { IsInside (K.told cabinet.old) (name_of (request_of input.now.job) JobField.Input) input.now.batch }
     requires ready { recorder.plan ≡ Some input.now.plan }
     requires trace { recorder.trace ≡ [] }
     requires room { greatest_trace input.now.plan ≤ recorder.room }
-    ensures ends { IfOk result (λ ran. EndsRun input.now.plan (draws_of input.now.coins) (made input.now.plan (draws_of input.now.coins) input.now.turns)
-        (seen_of V.faults (V.faults recorder.device) (K.faults cabinet.old) ran.recorder ran.history (K.faults cabinet.new))
-        (opens_last input.now.plan (block_keys (run_taken input.now)) ran.recorder.last) ran.failures ran.outcome) }
+    ensures ends { IfOk result (λ ran. EndsShuffle (run_taken input.now)
+        (seen_of V.faults (V.faults recorder.device) (K.faults cabinet.old) ran.recorder ran.history (K.faults cabinet.new)) ran.recorder.last ran.failures ran.outcome) }
+    ensures few { IfOk result (λ ran. HasFewAttempts (run_taken input.now) ran.history) }
     ensures ready { IfOk result (λ ran. ran.recorder.plan ≡ Some input.now.plan) }
     ensures room { IfOk result (λ ran. greatest_trace input.now.plan ≤ length ran.recorder.trace + ran.recorder.room) }
     ensures told { K.told cabinet.new ≡ K.told cabinet.old }
@@ -70,16 +71,7 @@ fn shuffle_batch<K: Cabinet, V: Device>(
         size: plan.form().envelope(),
         count: input.batch.count,
     };
-    run_turns(
-        alloc,
-        plan,
-        input.outer_keys(),
-        input.block_keys(),
-        &input.coins,
-        &mut batch,
-        recorder,
-        &input.turns,
-    )
+    shuffle_by_turns(alloc, input, &mut batch, recorder)
 }
 
 /// Does the work of a command whose batch was shuffled.
@@ -96,6 +88,7 @@ fn end_ran<K: Cabinet, P: Printer, V: Device>(
     requires outlet { HasRoom input.now.plan store.outlet }
     requires ready { ran.recorder.plan ≡ Some input.now.plan }
     requires room { greatest_trace input.now.plan ≤ length ran.recorder.trace + ran.recorder.room }
+    requires few { HasFewAttempts (run_taken input.now) ran.history }
     requires ends { (device : ℕ) × (batch : ℕ) × EndsShuffle (run_taken input.now) (seen_of V.faults device batch ran.recorder ran.history (K.faults cabinet.old))
         ran.recorder.last ran.failures ran.outcome }
     ensures { (device batch : ℕ) → EndsShuffle (run_taken input.now) (seen_of V.faults device batch ran.recorder ran.history (K.faults cabinet.old))
@@ -137,6 +130,7 @@ fn run_ready<K: Cabinet, P: Printer, V: Device>(
     input: &RunInput,
     store: Store,
 ) -> Result<Ended<V>, NoRun<V>>
+    requires mode { runs_crew (request_of input.now.job) ≡ false }
     requires taken { IsTaken input.now }
     requires command { (request_of input.now.job).command ≡ command_for (purpose_of store.outlet) }
     requires inside { IsInside (K.told cabinet.old) (name_of (request_of input.now.job) JobField.Input) input.now.batch }
@@ -166,6 +160,7 @@ fn act<K: Cabinet, P: Printer, V: Device>(
     mut recorder: Recorder<V>,
     input: &RunInput,
 ) -> Result<Ended<V>, NoRun<V>>
+    requires mode { runs_crew (request_of input.now.job) ≡ false }
     requires taken { IsTaken input.now }
     requires command { (request_of input.now.job).command ≡ command_for purpose }
     requires inside { IsInside (K.told cabinet.old) (name_of (request_of input.now.job) JobField.Input) input.now.batch }
@@ -192,7 +187,7 @@ fn act<K: Cabinet, P: Printer, V: Device>(
 
 /// Shuffles a batch on one thread for a purpose. For run it counts the values of the records that are kept and writes their
 /// database; for shuffle it writes these records as a forward file. Then it writes how the shuffle went, where the job names
-/// files for that, and prints its numbers.
+/// files for that, and prints its numbers. A job that asks for a crew is refused.
 pub fn run<K: Cabinet, P: Printer, V: Device>(
     alloc: Global,
     purpose: Purpose,

@@ -3,7 +3,6 @@ use Rattle.std.specs.Prelude.{[], unwrap_or}
 use Rattle.esa_analyser.specs.Opened.{database_of}
 use Rattle.esa_analyser.specs.Rows.{database_bytes}
 use Rattle.esa_header.specs.Pieces.{HaveLength}
-use Rattle.esa_job.specs.Seen.{request_of}
 use Rattle.esa_job.specs.Table.{need_of}
 use Rattle.esa_job.specs.declared.field.JobField.TheVariants as field
 use Rattle.esa_params.specs.Form.{inner_length}
@@ -14,7 +13,7 @@ use Rattle.esa_command.specs.Taking.{name_of}
 use Rattle.esa_command.specs.Work.{Write}
 use Rattle.esa_command.proofs.Settling.{writes_whole}
 use Rattle.esa_running.specs.RunTaken.{run_taken}
-use Rattle.esa_running.specs.RunWork.{output_write, records_of, shuffled_text, holds_text, made_text, well_work}
+use Rattle.esa_running.specs.RunWork.{records_of, shuffled_text, holds_text, made_text, well_work}
 use Rattle.esa_running.specs.Wanted.{inner_keys}
 use Rattle.esa_running.proofs.Joining.{joined_number, joined_few}
 use Rattle.esa_running.proofs.outlet.work_counted.Goals as goal

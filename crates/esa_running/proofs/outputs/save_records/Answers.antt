@@ -1,10 +1,9 @@
-use Rattle.std.proofs.Common.{◌≡◌, ◌∙◌, ap, sym, subst}
+use Rattle.std.proofs.Common.{◌∙◌, ap, sym, subst}
 use Rattle.std.specs.Prelude.{All, ◌<◌, ◌^◌, length}
 use Rattle.std.proofs.lemmas.Result.{err_from_is_err_and}
 use Rattle.esa_params.specs.declared.slot.Access.{Access}
 use Rattle.esa_spec.specs.Histories.{lists}
 use Rattle.esa_job.specs.Request.{name_at}
-use Rattle.esa_job.specs.Seen.{request_of}
 use Rattle.esa_job.specs.declared.field.JobField.TheVariants as field
 use Rattle.esa_command.specs.Doing.{AreWritten, AreBroken, WritesAll}
 use Rattle.esa_command.specs.Stand.{stand}
