@@ -1,4 +1,5 @@
 mod BatchSteps
+mod ComingOut
 mod Fitting
 mod Forwarded
 mod Joining

@@ -5,8 +5,10 @@ use Rattle.esa_device.specs.Recording.{Recorded}
 use Rattle.esa_ending.specs.Endings.{Succeeds}
 use Rattle.esa_ending.specs.Seen.{Seen}
 use Rattle.esa_ending.proofs.FrontLaws.{whole}
+use Rattle.esa_floor.specs.declared.turn.Outcome.TheVariants as outcome
 use Rattle.esa_job.specs.declared.field.JobField.TheVariants as field
 use Rattle.esa_params.specs.Sizes.{ArePlanned}
+use Rattle.esa_spec.specs.Draws.{IsDrawn}
 use Rattle.esa_spec.specs.Fronts.{Begins}
 use Rattle.esa_spec.specs.Traces.{trace}
 use Rattle.esa_vault.specs.declared.fault.VaultFault.{VaultFault}
@@ -15,11 +17,13 @@ use Rattle.esa_command.specs.Asked.{number_of}
 use Rattle.esa_command.specs.Doing.{failed_work}
 use Rattle.esa_shuffle.specs.Runs.{IsShuffled, seen_of}
 use Rattle.esa_running.specs.declared.purpose.Purpose.{Purpose}
+use Rattle.esa_running.specs.ComingOut.{IsMadeOf}
 use Rattle.esa_running.specs.Forwarding.{Forwards, BreaksOff}
 use Rattle.esa_running.specs.Run.{Asked}
 use Rattle.esa_running.specs.RunOwes.{fault_status, records_owed, HasSucceeded, HasEnded}
 use Rattle.esa_running.specs.RunWork.{FitFiles, success_work}
 use Rattle.esa_running.specs.Wanted.{sizes_in, turns_by, block_keys, drop_key}
+use Rattle.esa_running.proofs.ComingOut.{of_batch}
 use Rattle.esa_running.proofs.Fitting.{front_fits}
 use Rattle.esa_running.proofs.Shuffled.{shuffled_succeeds, EndsAt, shuffled_fails}
 use Rattle.esa_running.proofs.Turned.{few_shuffled}
@@ -33,8 +37,19 @@ module _ {V : Type 0} (told : V → Option (List (List ℕ))) (faults : V → �
   succeeds envelopes f =
       shuffled_succeeds told faults (sizes_in asked) asked.draws (turns_by asked history) device batch now history a old new s (block_keys asked) (drop_key asked) asked.drops (number_of asked.job field.T) (concat envelopes) f.forwarded
 
-  pub succeeded : (purpose : Purpose) (envelopes : List (List ℕ)) → Forwards told faults asked a old new envelopes → HasSucceeded purpose told faults asked seen new (success_work purpose asked a envelopes new.trace history)
-  succeeded purpose envelopes f = record { attempt = a; ends = succeeds envelopes f; shuffled = old; envelopes = envelopes; forwards = f; owed = refl }
+  module _ (planned : ArePlanned (sizes_in asked)) (drawn : IsDrawn (sizes_in asked) (asked.draws a)) (given : List ℕ) (made : IsMadeOf asked history old.log (outcome.Shuffled a) given) where
+    pub succeeded : (purpose : Purpose) (envelopes : List (List ℕ)) → Forwards told faults asked a old new envelopes → HasSucceeded purpose told faults asked given seen new (success_work purpose asked a envelopes new.trace history)
+    succeeded purpose envelopes f =
+        let ends = succeeds envelopes f in
+        record {
+          attempt = a;
+          ends = ends;
+          shuffled = old;
+          envelopes = envelopes;
+          forwards = f;
+          comes_out = of_batch told faults asked a old new envelopes f history given planned ends.planned drawn ends.good made;
+          owed = refl;
+        }
 
   -- one of the scans ended early
   abbrev Broken : VaultFault → Type 0
@@ -43,13 +58,13 @@ module _ {V : Type 0} (told : V → Option (List (List ℕ))) (faults : V → �
   broken : {T : Type 0} (fault : VaultFault) → BreaksOff {V = V} {T = T} told faults asked a old new (Err fault) → Broken fault
   broken {T} fault breaks = shuffled_fails told faults (sizes_in asked) asked.draws (turns_by asked history) device batch now history a old new s T (block_keys asked) fault breaks
 
-  owed : (purpose : Purpose) (fault : VaultFault) → Broken fault → HasEnded purpose told faults asked seen new (failed_work (fault_status fault) (records_owed asked seen))
-  owed purpose (Device number) ends = inr (inr (inl (record { number = number; ends = ends; owed = refl })))
-  owed purpose (Tampered number) ends = inr (inr (inr (inl (record { number = number; ends = ends; owed = refl }))))
+  owed : (purpose : Purpose) (given : List ℕ) (fault : VaultFault) → Broken fault → HasEnded purpose told faults asked given seen new (failed_work (fault_status fault) (records_owed asked seen))
+  owed purpose given (Device number) ends = inr (inr (inl (record { number = number; ends = ends; owed = refl })))
+  owed purpose given (Tampered number) ends = inr (inr (inr (inl (record { number = number; ends = ends; owed = refl }))))
 
-  pub broken_off : {T : Type 0} (purpose : Purpose) (fault : VaultFault) → BreaksOff {V = V} {T = T} told faults asked a old new (Err fault)
-      → HasEnded purpose told faults asked seen new (failed_work (fault_status fault) (records_owed asked seen))
-  broken_off purpose fault breaks = owed purpose fault (broken fault breaks)
+  pub broken_off : {T : Type 0} (purpose : Purpose) (given : List ℕ) (fault : VaultFault) → BreaksOff {V = V} {T = T} told faults asked a old new (Err fault)
+      → HasEnded purpose told faults asked given seen new (failed_work (fault_status fault) (records_owed asked seen))
+  broken_off purpose given fault breaks = owed purpose given fault (broken fault breaks)
 
   -- ---- what tells of it fits its files
 

@@ -25,6 +25,12 @@ module _ (asked : Asked) where
   by_turns : (history : List ℕ) → runs_crew asked.job ≡ false → turns_by asked history ≡ made (sizes_in asked) asked.draws asked.turns
   by_turns history none = cond-false (runs_crew asked.job) (lists (sizes_in asked).workers history) (made (sizes_in asked) asked.draws asked.turns) none
 
+  pub handed_in_are : (p : Sizes) (history : List ℕ) → p ≡ sizes_in asked → runs_crew asked.job ≡ false → made p asked.draws asked.turns ≡ turns_by asked history
+  handed_in_are p history plan none = ap (λ (q : Sizes). made q asked.draws asked.turns) plan ∙ sym (by_turns history none)
+
+  pub stored_are : (p : Sizes) (history : List ℕ) → p ≡ sizes_in asked → runs_crew asked.job ≡ true → lists p.workers history ≡ turns_by asked history
+  stored_are p history plan crew = ap (λ (q : Sizes). lists q.workers history) plan ∙ sym (by_crew history crew)
+
   -- turns that are handed in are completed for each planned attempt
   pub few_handed_in : (history : List ℕ) → runs_crew asked.job ≡ false → HasFewAttempts asked history
   few_handed_in history none = omega (arith, ap length (by_turns history none), made_few (sizes_in asked) asked.draws asked.turns)
@@ -49,8 +55,8 @@ module _ (asked : Asked) where
 
     pub ended_by_turns : runs_crew asked.job ≡ false → EndsRun p asked.draws (made p asked.draws asked.turns) seen (opens_last p keys last) failures o → EndsShuffle asked seen last failures o
     ended_by_turns none ends =
-        ended_as (made p asked.draws asked.turns) (ap (λ (q : Sizes). made q asked.draws asked.turns) plan ∙ sym (by_turns seen.history none)) ends
+        ended_as (made p asked.draws asked.turns) (handed_in_are p seen.history plan none) ends
 
     pub ended_by_crew : runs_crew asked.job ≡ true → EndsRun p asked.draws (lists p.workers seen.history) seen (opens_last p keys last) failures o → EndsShuffle asked seen last failures o
     ended_by_crew crew ends =
-        ended_as (lists p.workers seen.history) (ap (λ (q : Sizes). lists q.workers seen.history) plan ∙ sym (by_crew seen.history crew)) ends
+        ended_as (lists p.workers seen.history) (stored_are p seen.history plan crew) ends

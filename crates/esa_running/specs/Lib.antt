@@ -1,3 +1,4 @@
+pub mod ComingOut
 pub mod Forwarding
 pub mod Outlets
 pub mod Purpose

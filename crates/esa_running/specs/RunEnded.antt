@@ -8,6 +8,7 @@ use Rattle.esa_command.specs.Settled.{Settles}
 use Rattle.esa_command.specs.Stand.{Stand}
 use Rattle.esa_command.specs.Work.{Work}
 use Rattle.esa_running.specs.declared.purpose.Purpose.{Purpose}
+use Rattle.esa_running.specs.ComingOut.{Became}
 use Rattle.esa_running.specs.Run.{Asked}
 use Rattle.esa_running.specs.RunOwes.{HasEnded, RunOwes}
 
@@ -21,10 +22,11 @@ pub record IsIdle {V : Type 0} (recorder : Recorded V) (history : List ℕ) : Ty
   pub trace : recorder.trace ≡ []
   pub turns : history ≡ []
 
--- the shuffle ended so, and the work that is owed then is done
-pub record HasWorked {V : Type 0} (purpose : Purpose) (told : V → Option (List (List ℕ))) (faults : V → ℕ) (asked : Asked) (seen : Seen) (recorder : Recorded V) (cabinet cabinet_now : Stand Files) (printer printer_now : Stand (List ℕ)) (end : End) : Type 0 where
+-- the shuffle ended so, where its load was given these bytes, and the work that is owed then is done
+pub record HasWorked {V : Type 0} (purpose : Purpose) (told : V → Option (List (List ℕ))) (faults : V → ℕ) (asked : Asked) (given : List ℕ) (seen : Seen) (recorder : Recorded V) (cabinet cabinet_now : Stand Files) (printer printer_now : Stand (List ℕ)) (end : End) : Type 0 where
   pub work : Work
-  pub ends : HasEnded purpose told faults asked seen recorder work
+  pub ends : HasEnded purpose told faults asked given seen recorder work
+  pub became : Became asked given seen.history recorder.log work.ended
   pub settles : Settles work cabinet cabinet_now printer printer_now end
 
 -- what was asked for was acted on, and the work that is owed then is done

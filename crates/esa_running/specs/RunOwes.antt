@@ -1,6 +1,7 @@
 -- What run and shuffle owe, by how the shuffle went.
 use Rattle.std.specs.Prelude.{◌≡◌, ◌⊎◌, ℕ, List, [], length, Option}
 use Rattle.esa_lists.specs.Files.{Files}
+use Rattle.esa_device.specs.Logs.{IsFaithful}
 use Rattle.esa_device.specs.Recording.{Recorded}
 use Rattle.esa_outside.specs.Cause.{Rose}
 use Rattle.esa_outside.specs.declared.Role.TheVariants as role
@@ -20,6 +21,7 @@ use Rattle.esa_command.specs.Stand.{Stand}
 use Rattle.esa_command.specs.Work.{Write, Work}
 use Rattle.esa_shuffle.specs.Runs.{EndsRun, opens_last, seen_of}
 use Rattle.esa_running.specs.declared.purpose.Purpose.{Purpose}
+use Rattle.esa_running.specs.ComingOut.{IsLoaded, Became, AreOfBatch}
 use Rattle.esa_running.specs.Forwarding.{Forwards}
 use Rattle.esa_running.specs.Run.{Asked}
 use Rattle.esa_running.specs.RunWork.{records_of, success_work}
@@ -77,24 +79,31 @@ pub record IsUnloaded (asked : Asked) (seen : Seen) (work : Work) : Type 0 where
   pub owed : work ≡ failed_work (status.OutsideFault role.Input) (where_made seen.trace (records_owed asked seen))
 
 -- the shuffle succeeded: what is forwarded of its output is counted or handed on
-pub record HasSucceeded {V : Type 0} (purpose : Purpose) (told : V → Option (List (List ℕ))) (faults : V → ℕ) (asked : Asked) (seen : Seen) (now : Recorded V) (work : Work) : Type 0 where
+pub record HasSucceeded {V : Type 0} (purpose : Purpose) (told : V → Option (List (List ℕ))) (faults : V → ℕ) (asked : Asked) (given : List ℕ) (seen : Seen) (now : Recorded V) (work : Work) : Type 0 where
   pub attempt : ℕ
   pub ends : Succeeds (sizes_in asked) asked.draws (turns_by asked seen.history) seen attempt
   -- the recorder before the output was scanned, and what is forwarded
   pub shuffled : Recorded V
   pub envelopes : List (List ℕ)
   pub forwards : Forwards told faults asked attempt shuffled now envelopes
+  -- where the device gave back what was written, these are of the records of the batch
+  pub comes_out : IsFaithful (sizes_in asked) now.log → AreOfBatch asked attempt seen.history given forwards.forwarded.first forwards.forwarded.second envelopes
   pub owed : work ≡ success_work purpose asked attempt envelopes seen.trace seen.history
 
 -- ---- what it owes
 
-abbrev pub HasEnded : {V : Type 0} → Purpose → (told : V → Option (List (List ℕ))) → (faults : V → ℕ) → Asked → Seen → (now : Recorded V) → Work → Type 0
-HasEnded purpose told faults asked seen now work =
-    HasSucceeded purpose told faults asked seen now work
+-- how it ended, where the load was given these bytes for the records of the batch
+abbrev pub HasEnded : {V : Type 0} → Purpose → (told : V → Option (List (List ℕ))) → (faults : V → ℕ) → Asked → (given : List ℕ) → Seen → (now : Recorded V) → Work → Type 0
+HasEnded purpose told faults asked given seen now work =
+    HasSucceeded purpose told faults asked given seen now work
     ⊎ HasOverflowed asked seen work ⊎ HasFailedAt asked seen work ⊎ IsTamperedAt asked seen now.last work ⊎ IsUnloaded asked seen work ⊎ IsNotLaid seen work
 
 -- what a shuffle for a purpose owes, whose device counted so many faults before it: by what was asked, and what is seen of it.
 -- It reads the cabinet and changes no file
 pub record RunOwes {V : Type 0} (purpose : Purpose) (told : V → Option (List (List ℕ))) (faults : V → ℕ) (before : ℕ) (now : Recorded V) (history : List ℕ) (asked : Asked) (taken acted : Stand Files) (work : Work) : Type 0 where
-  pub ends : HasEnded purpose told faults asked (seen_of faults before taken.faults now history acted.faults) now work
+  -- what the load was given for the records of the batch, and what became of them
+  pub given : List ℕ
+  pub load : IsLoaded asked taken acted history given
+  pub became : Became asked given history now.log work.ended
+  pub ends : HasEnded purpose told faults asked given (seen_of faults before taken.faults now history acted.faults) now work
   pub still : acted.told ≡ taken.told

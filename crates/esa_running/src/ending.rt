@@ -1,6 +1,6 @@
 //! The work of a command that shuffles a batch, by how the shuffle ended.
 
-ghost use Rattle.std.specs.Prelude.{◌≡◌, ◌+◌, ◌≤◌, ℕ, length, Some};
+ghost use Rattle.std.specs.Prelude.{◌≡◌, ◌+◌, ◌≤◌, ℕ, List, length, Some};
 ghost use Rattle.esa_job.specs.Seen.{request_of};
 ghost use Rattle.esa_outside.specs.declared.Role.TheVariants.{Input};
 ghost use Rattle.esa_params.specs.Slots.{greatest_trace};
@@ -11,6 +11,7 @@ ghost use Rattle.esa_command.specs.Doing.{failed_work};
 ghost use Rattle.esa_command.specs.Settled.{Settles};
 ghost use Rattle.esa_command.specs.Stand.{stand};
 ghost use Rattle.esa_command.specs.Work.{Work};
+ghost use Rattle.esa_running.specs.ComingOut.{Became, IsMadeOf};
 ghost use Rattle.esa_running.specs.Outlets.{purpose_of, HasRoom};
 ghost use Rattle.esa_running.specs.Purpose.{command_for};
 ghost use Rattle.esa_running.specs.RunOwes.{EndsShuffle, HasEnded, where_made};
@@ -79,10 +80,12 @@ pub(crate) fn work_ended<K: Cabinet, P: Printer, V: Device>(
     requires fits { FitFiles (sizes_in (run_taken input.now)).workers recorder.old.trace history.now }
     requires ends { (device : ℕ) × (batch : ℕ) × EndsShuffle (run_taken input.now) (seen_of V.faults device batch recorder.old history.now (K.faults cabinet.old))
         recorder.old.last failures.now outcome }
-    ensures { (device batch : ℕ) → EndsShuffle (run_taken input.now) (seen_of V.faults device batch recorder.old history.now (K.faults cabinet.old))
+    ensures { (device batch : ℕ) (given : List ℕ) → EndsShuffle (run_taken input.now) (seen_of V.faults device batch recorder.old history.now (K.faults cabinet.old))
         recorder.old.last failures.now outcome
-        → (work : Work) × HasEnded (purpose_of store.outlet) V.told V.faults (run_taken input.now)
+        → IsMadeOf (run_taken input.now) history.now recorder.old.log outcome given
+        → (work : Work) × HasEnded (purpose_of store.outlet) V.told V.faults (run_taken input.now) given
         (seen_of V.faults device batch recorder.new history.now (K.faults cabinet.old)) recorder.new work
+        × Became (run_taken input.now) given history.now recorder.new.log work.ended
         × Settles work (stand K.told K.faults K.heard cabinet.old) (stand K.told K.faults K.heard cabinet.new)
         (stand P.told P.faults P.heard printer.old) (stand P.told P.faults P.heard printer.new) result }
 {

@@ -1,20 +1,26 @@
 //! The commands run and shuffle: a batch is shuffled, and what comes out of it is counted or handed on.
 
-ghost use Rattle.std.specs.Prelude.{◌≡◌, ◌+◌, ◌≤◌, ℕ, [], length, false, Some, IfOk, IfErr, MatchResult};
+ghost use Rattle.std.specs.Prelude.{◌≡◌, ◌≢◌, ◌∷◌, ◌+◌, ◌≤◌, ℕ, List, [], length, false, Some, IfOk, IfErr, MatchResult};
+ghost use Rattle.esa_header.specs.Header.{header_length};
 ghost use Rattle.esa_job.specs.Refusal.{runs_crew};
 ghost use Rattle.esa_job.specs.Seen.{request_of};
+ghost use Rattle.esa_params.specs.Form.{envelope_length};
 ghost use Rattle.esa_params.specs.Slots.{greatest_trace};
+ghost use Rattle.esa_shuffle.specs.Loading.{HasGiven};
+ghost use Rattle.esa_shuffle.specs.Records.{IsShuffledFrom};
 ghost use Rattle.esa_shuffle.specs.Runs.{seen_of};
+ghost use Rattle.esa_shuffling.specs.Drawn.{draws_of};
 ghost use Rattle.esa_command.specs.Ends.{EndsBy};
 ghost use Rattle.esa_command.specs.Stand.{stand};
 ghost use Rattle.esa_command.specs.Taking.{name_of};
+ghost use Rattle.esa_running.specs.ComingOut.{batch_told, batch_part, IsMadeOf};
 ghost use Rattle.esa_running.specs.Outlets.{purpose_of, HasRoom};
 ghost use Rattle.esa_running.specs.Purpose.{command_for};
 ghost use Rattle.esa_running.specs.Run.{IsInside, run_steps};
 ghost use Rattle.esa_running.specs.RunEnded.{HasActed, HasWorked, IsIdle, history_in};
 ghost use Rattle.esa_running.specs.RunOwes.{EndsShuffle, RunOwes};
 ghost use Rattle.esa_running.specs.RunTaken.{IsTaken, run_taken};
-ghost use Rattle.esa_running.specs.Wanted.{HasFewAttempts};
+ghost use Rattle.esa_running.specs.Wanted.{block_keys, outer_keys, turns_by, HasFewAttempts};
 
 use crate::ending::work_ended;
 use crate::input::{RunInput, take_run};
@@ -41,6 +47,41 @@ pub struct Ended<V: Device> {
     pub history: Option<History>,
 }
 
+/// Shuffles the records of a batch file. Where there is no memory for that nothing was done.
+fn shuffle_records<K: Cabinet, V: Device>(
+    alloc: Global,
+    batch: &mut BatchFile<'_, '_, K>,
+    recorder: Recorder<V>,
+    input: &RunInput,
+) -> Result<Ran<V>, NoRun<V>>
+    requires mode { runs_crew (request_of input.now.job) ≡ false }
+    requires taken { IsTaken input.now }
+    requires name { batch.old.name.now ≡ name_of (request_of input.now.job) JobField.Input }
+    requires start { batch.old.start ≡ header_length input.now.batch.form }
+    requires size { batch.old.size ≡ envelope_length input.now.batch.form }
+    requires count { batch.old.count ≡ input.now.batch.count }
+    requires ready { recorder.plan ≡ Some input.now.plan }
+    requires trace { recorder.trace ≡ [] }
+    requires room { greatest_trace input.now.plan ≤ recorder.room }
+    ensures ends { IfOk result (λ ran. EndsShuffle (run_taken input.now)
+        (seen_of V.faults (V.faults recorder.device) (K.faults batch.old.cabinet.now) ran.recorder ran.history (K.faults batch.new.cabinet.now)) ran.recorder.last ran.failures ran.outcome) }
+    ensures few { IfOk result (λ ran. HasFewAttempts (run_taken input.now) ran.history) }
+
+    // What the load was given are records of the batch, and the shuffle is made of them.
+    ensures given { IfOk result (λ ran. let asked = run_taken input.now in
+        HasGiven input.now.plan (batch_told asked (K.told batch.old.cabinet.now)) (batch_part asked) (K.heard batch.old.cabinet.now) (K.heard batch.new.cabinet.now)
+        (ran.history ≢ input.now.plan.workers ∷ []) (IsShuffledFrom input.now.plan (draws_of input.now.coins) (turns_by asked ran.history)
+        (outer_keys asked) (block_keys asked) ran.history ran.recorder.log ran.outcome)) }
+    ensures ready { IfOk result (λ ran. ran.recorder.plan ≡ Some input.now.plan) }
+    ensures room { IfOk result (λ ran. greatest_trace input.now.plan ≤ length ran.recorder.trace + ran.recorder.room) }
+    ensures told { K.told batch.new.cabinet.now ≡ K.told batch.old.cabinet.now }
+    ensures same_reference { batch.new.cabinet.ghost_name ≡ batch.old.cabinet.ghost_name }
+    ensures given_back { IfErr result (λ none. none.recorder ≡ recorder) }
+    ensures untouched { IfErr result (λ _. batch.new ≡ batch.old) }
+{
+    shuffle_by_turns(alloc, input, batch, recorder)
+}
+
 /// Shuffles a batch. Where there is no memory for that nothing was done.
 fn shuffle_batch<K: Cabinet, V: Device>(
     alloc: Global,
@@ -57,21 +98,24 @@ fn shuffle_batch<K: Cabinet, V: Device>(
     ensures ends { IfOk result (λ ran. EndsShuffle (run_taken input.now)
         (seen_of V.faults (V.faults recorder.device) (K.faults cabinet.old) ran.recorder ran.history (K.faults cabinet.new)) ran.recorder.last ran.failures ran.outcome) }
     ensures few { IfOk result (λ ran. HasFewAttempts (run_taken input.now) ran.history) }
+    ensures given { IfOk result (λ ran. let asked = run_taken input.now in
+        HasGiven input.now.plan (batch_told asked (K.told cabinet.old)) (batch_part asked) (K.heard cabinet.old) (K.heard cabinet.new)
+        (ran.history ≢ input.now.plan.workers ∷ []) (IsShuffledFrom input.now.plan (draws_of input.now.coins) (turns_by asked ran.history)
+        (outer_keys asked) (block_keys asked) ran.history ran.recorder.log ran.outcome)) }
     ensures ready { IfOk result (λ ran. ran.recorder.plan ≡ Some input.now.plan) }
     ensures room { IfOk result (λ ran. greatest_trace input.now.plan ≤ length ran.recorder.trace + ran.recorder.room) }
     ensures told { K.told cabinet.new ≡ K.told cabinet.old }
     ensures given_back { IfErr result (λ none. none.recorder ≡ recorder) }
     ensures untouched { IfErr result (λ _. cabinet.new ≡ cabinet.old) }
 {
-    let plan = input.plan;
     let mut batch = BatchFile {
         cabinet,
         name: input.job.input(),
         start: input.batch.start(),
-        size: plan.form().envelope(),
+        size: input.plan.form().envelope(),
         count: input.batch.count,
     };
-    shuffle_by_turns(alloc, input, &mut batch, recorder)
+    shuffle_records(alloc, &mut batch, recorder, input)
 }
 
 /// Does the work of a command whose batch was shuffled.
@@ -91,12 +135,14 @@ fn end_ran<K: Cabinet, P: Printer, V: Device>(
     requires few { HasFewAttempts (run_taken input.now) ran.history }
     requires ends { (device : ℕ) × (batch : ℕ) × EndsShuffle (run_taken input.now) (seen_of V.faults device batch ran.recorder ran.history (K.faults cabinet.old))
         ran.recorder.last ran.failures ran.outcome }
-    ensures { (device batch : ℕ) → EndsShuffle (run_taken input.now) (seen_of V.faults device batch ran.recorder ran.history (K.faults cabinet.old))
+    ensures works { (device batch : ℕ) (given : List ℕ) → EndsShuffle (run_taken input.now) (seen_of V.faults device batch ran.recorder ran.history (K.faults cabinet.old))
         ran.recorder.last ran.failures ran.outcome
-        → HasWorked (purpose_of store.outlet) V.told V.faults (run_taken input.now)
+        → IsMadeOf (run_taken input.now) ran.history ran.recorder.log ran.outcome given
+        → HasWorked (purpose_of store.outlet) V.told V.faults (run_taken input.now) given
         (seen_of V.faults device batch result.recorder (history_in result.history) (K.faults cabinet.old)) result.recorder
         (stand K.told K.faults K.heard cabinet.old) (stand K.told K.faults K.heard cabinet.new)
         (stand P.told P.faults P.heard printer.old) (stand P.told P.faults P.heard printer.new) result.end }
+    ensures history { history_in result.history ≡ ran.history }
 {
     let Ran {
         outcome,

@@ -1,10 +1,12 @@
 //! What is done with a shuffle that succeeded.
 
-ghost use Rattle.std.specs.Prelude.{◌≡◌, ◌*◌, ◌≤◌, ℕ, Some, IfOk};
+ghost use Rattle.std.specs.Prelude.{◌≡◌, ◌*◌, ◌≤◌, ℕ, List, Some, IfOk};
+ghost use Rattle.esa_floor.specs.declared.turn.Outcome.TheVariants.{Shuffled};
 ghost use Rattle.esa_job.specs.Seen.{request_of};
 ghost use Rattle.esa_command.specs.Settled.{Settles};
 ghost use Rattle.esa_command.specs.Stand.{stand};
 ghost use Rattle.esa_command.specs.Work.{Work};
+ghost use Rattle.esa_running.specs.ComingOut.{Became, IsMadeOf};
 ghost use Rattle.esa_running.specs.Outlets.{purpose_of, HasRoom};
 ghost use Rattle.esa_running.specs.Purpose.{command_for};
 ghost use Rattle.esa_running.specs.RunOwes.{HasEnded};
@@ -62,10 +64,12 @@ pub(crate) fn work_shuffled<K: Cabinet, P: Printer, V: Device>(
     requires room { 2 * input.now.plan.b ≤ recorder.old.room }
     requires shuffled { (device : ℕ) × (batch : ℕ) × IsShuffled (sizes_in (run_taken input.now)) (run_taken input.now).draws (turns_by (run_taken input.now) history.now)
         (seen_of V.faults device batch recorder.old history.now (K.faults cabinet.old)) attempt }
-    ensures { (device batch : ℕ) → IsShuffled (sizes_in (run_taken input.now)) (run_taken input.now).draws (turns_by (run_taken input.now) history.now)
+    ensures { (device batch : ℕ) (given : List ℕ) → IsShuffled (sizes_in (run_taken input.now)) (run_taken input.now).draws (turns_by (run_taken input.now) history.now)
         (seen_of V.faults device batch recorder.old history.now (K.faults cabinet.old)) attempt
-        → (work : Work) × HasEnded (purpose_of store.outlet) V.told V.faults (run_taken input.now)
+        → IsMadeOf (run_taken input.now) history.now recorder.old.log (Shuffled attempt) given
+        → (work : Work) × HasEnded (purpose_of store.outlet) V.told V.faults (run_taken input.now) given
         (seen_of V.faults device batch recorder.new history.now (K.faults cabinet.old)) recorder.new work
+        × Became (run_taken input.now) given history.now recorder.new.log work.ended
         × Settles work (stand K.told K.faults K.heard cabinet.old) (stand K.told K.faults K.heard cabinet.new)
         (stand P.told P.faults P.heard printer.old) (stand P.told P.faults P.heard printer.new) result }
 {

@@ -1,6 +1,7 @@
 use Rattle.std.proofs.Common.{◌+◌, ◌*◌, ◌≤◌, length, inl, inr, sym, subst}
 use Rattle.esa_params.specs.Slots.{greatest_trace}
 use Rattle.esa_shuffle.specs.Runs.{seen_of}
+use Rattle.esa_running.specs.ComingOut.{IsMadeOf}
 use Rattle.esa_running.specs.RunTaken.{run_taken}
 use Rattle.esa_running.specs.Wanted.{sizes_in, turns_by}
 use Rattle.esa_running.proofs.RanEnds.{Ended, overflowed, failed_at, tampered_at, unloaded, few_failures}
@@ -25,9 +26,10 @@ work_shuffled-requires-clause-room g c =
     (scans_room (sizes_in asked) asked.draws (turns_by asked c.args.history.now) seen c.in-Shuffled.attempt recorder.room shuffled (subst (λ p. greatest_trace p ≤ length recorder.trace + recorder.room) plan c.requires.room))
 
 pub returns-in-Shuffled : goal.returns-in-Shuffled
-returns-in-Shuffled g c = λ device batch met.
+returns-in-Shuffled g c = λ device batch given met made.
     let seen = seen_of g.V.Device.faults device batch c.args.recorder.now c.args.history.now (g.K.Cabinet.faults c.args.cabinet.now) in
-    c.work_shuffled.ensures device batch (subst (Ended (run_taken c.args.input.now) seen c.args.recorder.now.last c.args.failures.now) c.in-Shuffled.is met).outcome
+    c.work_shuffled.ensures device batch given (subst (Ended (run_taken c.args.input.now) seen c.args.recorder.now.last c.args.failures.now) c.in-Shuffled.is met).outcome
+    (subst (λ o. IsMadeOf (run_taken c.args.input.now) c.args.history.now c.args.recorder.now.log o given) c.in-Shuffled.is made)
 
 pub failures_of-requires : goal.failures_of-requires
 failures_of-requires g c =
@@ -39,33 +41,37 @@ failures_of-requires g c =
     subst (λ p. length c.args.failures.now ≤ p.attempts) (sym c.requires.taken.plan) few
 
 pub returns-in-Overflow : goal.returns-in-Overflow
-returns-in-Overflow g c = λ device batch met.
+returns-in-Overflow g c = λ device batch given met made.
     let asked = run_taken c.args.input.now in
     let seen = seen_of g.V.Device.faults device batch c.args.recorder.now c.args.history.now (g.K.Cabinet.faults c.args.cabinet.now) in
     let last = c.args.recorder.now.last in
     let e = subst (Ended asked seen last c.args.failures.now) c.in-Overflow.is met in
-    (_, inr (inl (overflowed asked seen last c.args.failures.now c.failures_of.result c.failures_of.ensures e)), c.work_failed.ensures)
+    let m = subst (λ o. IsMadeOf asked c.args.history.now c.args.recorder.now.log o given) c.in-Overflow.is made in
+    (_, inr (inl (overflowed asked seen last c.args.failures.now c.failures_of.result c.failures_of.ensures e)), record { took = m.shuffled.took; failed = m.shuffled.failed }, c.work_failed.ensures)
 
 pub returns-in-DeviceFault : goal.returns-in-DeviceFault
-returns-in-DeviceFault g c = λ device batch met.
+returns-in-DeviceFault g c = λ device batch given met made.
     let asked = run_taken c.args.input.now in
     let seen = seen_of g.V.Device.faults device batch c.args.recorder.now c.args.history.now (g.K.Cabinet.faults c.args.cabinet.now) in
     let last = c.args.recorder.now.last in
     let e = subst (Ended asked seen last c.args.failures.now) c.in-DeviceFault.is met in
-    (_, inr (inr (inl (failed_at asked seen last c.args.failures.now c.in-DeviceFault.slot e))), c.work_failed-in-DeviceFault.ensures)
+    let m = subst (λ o. IsMadeOf asked c.args.history.now c.args.recorder.now.log o given) c.in-DeviceFault.is made in
+    (_, inr (inr (inl (failed_at asked seen last c.args.failures.now c.in-DeviceFault.slot e))), record { took = m.shuffled.took; failed = m.shuffled.failed }, c.work_failed-in-DeviceFault.ensures)
 
 pub returns-in-Tampered : goal.returns-in-Tampered
-returns-in-Tampered g c = λ device batch met.
+returns-in-Tampered g c = λ device batch given met made.
     let asked = run_taken c.args.input.now in
     let seen = seen_of g.V.Device.faults device batch c.args.recorder.now c.args.history.now (g.K.Cabinet.faults c.args.cabinet.now) in
     let last = c.args.recorder.now.last in
     let e = subst (Ended asked seen last c.args.failures.now) c.in-Tampered.is met in
-    (_, inr (inr (inr (inl (tampered_at asked seen last c.args.failures.now c.in-Tampered.slot e)))), c.work_failed-in-Tampered.ensures)
+    let m = subst (λ o. IsMadeOf asked c.args.history.now c.args.recorder.now.log o given) c.in-Tampered.is made in
+    (_, inr (inr (inr (inl (tampered_at asked seen last c.args.failures.now c.in-Tampered.slot e)))), record { took = m.shuffled.took; failed = m.shuffled.failed }, c.work_failed-in-Tampered.ensures)
 
 pub returns-in-BatchFailed : goal.returns-in-BatchFailed
-returns-in-BatchFailed g c = λ device batch met.
+returns-in-BatchFailed g c = λ device batch given met made.
     let asked = run_taken c.args.input.now in
     let seen = seen_of g.V.Device.faults device batch c.args.recorder.now c.args.history.now (g.K.Cabinet.faults c.args.cabinet.now) in
     let last = c.args.recorder.now.last in
     let e = subst (Ended asked seen last c.args.failures.now) c.in-BatchFailed.is met in
-    (_, inr (inr (inr (inr (inl (unloaded asked seen last c.args.failures.now e))))), c.work_unloaded.ensures)
+    let m = subst (λ o. IsMadeOf asked c.args.history.now c.args.recorder.now.log o given) c.in-BatchFailed.is made in
+    (_, inr (inr (inr (inr (inl (unloaded asked seen last c.args.failures.now e))))), record { took = m.shuffled.took; failed = m.shuffled.failed }, c.work_unloaded.ensures)

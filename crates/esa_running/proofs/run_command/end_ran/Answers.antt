@@ -1,5 +1,6 @@
 use Rattle.std.proofs.Common.{sym, subst}
 use Rattle.esa_shuffle.specs.Runs.{seen_of}
+use Rattle.esa_running.specs.ComingOut.{Became, IsMadeOf}
 use Rattle.esa_running.specs.Outlets.{purpose_of}
 use Rattle.esa_running.specs.RunOwes.{EndsShuffle, HasEnded}
 use Rattle.esa_running.specs.RunTaken.{run_taken}
@@ -26,17 +27,19 @@ work_ended-end-requires-clause-fits g c =
     let seen = seen_of g.V.Device.faults met.0 met.1 ran.recorder ran.history (g.K.Cabinet.faults c.args.cabinet.now) in
     subst (FitFiles (sizes_in asked).workers ran.recorder.trace) (sym c.entries.ensures) (ended_fits asked seen ran.recorder.last ran.failures c.requires.taken.limits c.requires.few ran.outcome met.2)
 
-pub returns : goal.returns
-returns g c = λ device batch met.
+pub returns-clause-works : goal.returns-clause-works
+returns-clause-works g c = λ device batch given met made.
     let ran = c.args.ran in
     let asked = run_taken c.args.input.now in
     let now = g.K.Cabinet.faults c.args.cabinet.now in
     let new = c.work_ended-end.new.recorder in
     let done =
-    c.work_ended-end.ensures device batch
-    (subst (λ history. EndsShuffle asked (seen_of g.V.Device.faults device batch ran.recorder history now) ran.recorder.last ran.failures ran.outcome) (sym c.entries.ensures) met) in
+    c.work_ended-end.ensures device batch given
+    (subst (λ history. EndsShuffle asked (seen_of g.V.Device.faults device batch ran.recorder history now) ran.recorder.last ran.failures ran.outcome) (sym c.entries.ensures) met)
+    (subst (λ history. IsMadeOf asked history ran.recorder.log ran.outcome given) (sym c.entries.ensures) made) in
     record {
       work = done.0;
-      ends = subst (λ history. HasEnded (purpose_of c.args.store.outlet) g.V.Device.told g.V.Device.faults asked (seen_of g.V.Device.faults device batch new history now) new done.0) c.entries.ensures done.1;
-      settles = done.2;
+      ends = subst (λ history. HasEnded (purpose_of c.args.store.outlet) g.V.Device.told g.V.Device.faults asked given (seen_of g.V.Device.faults device batch new history now) new done.0) c.entries.ensures done.1;
+      became = subst (λ history. Became asked given history new.log done.0.ended) c.entries.ensures done.2;
+      settles = done.3;
     }

@@ -1,4 +1,6 @@
-use Rattle.std.proofs.Common.{inl, sym, subst}
+use Rattle.std.proofs.Common.{◌<◌, inl, sym, subst}
+use Rattle.esa_floor.specs.declared.turn.Outcome.TheVariants.{Shuffled}
+use Rattle.esa_spec.specs.Draws.{IsDrawn}
 use Rattle.esa_command.specs.Doing.{failed_work}
 use Rattle.esa_command.specs.Settled.{Settles}
 use Rattle.esa_command.specs.Stand.{stand}
@@ -6,6 +8,7 @@ use Rattle.esa_running.specs.Forwarding.{AreJoined}
 use Rattle.esa_running.specs.Outlets.{HasRoom}
 use Rattle.esa_running.specs.RunTaken.{run_taken}
 use Rattle.esa_running.specs.RunWork.{records_of}
+use Rattle.esa_running.proofs.ComingOut.{drawn_for, forwarded_on, broken_on, became_well, became_broken}
 use Rattle.esa_running.proofs.RunEnds.{succeeded, success_fits, broken_off, broken_fits}
 use Rattle.esa_running.proofs.working.work_shuffled.Goals as goal
 
@@ -31,22 +34,32 @@ work_failed-requires-clause-fits g c =
     c.requires.taken.limits c.in-Err.fault c.in-Err.ensures.broken
 
 pub returns-in-Ok : goal.returns-in-Ok
-returns-in-Ok g c = λ device batch s.
-    let f = c.in-Ok.ensures.forwarded in (
+returns-in-Ok g c = λ device batch given s made.
+    let f = c.in-Ok.ensures.forwarded in
+    let asked = run_taken c.args.input.now in
+    let attempt = c.args.attempt in
+    let old = c.args.recorder.now in
+    let new = c.forward_output.new.recorder in
+    let taken = c.requires.taken in
+    let drawn = subst (λ p. attempt < p.attempts → IsDrawn p (asked.draws attempt)) taken.coins (drawn_for c.args.input.now.coins attempt) s.planned in (
       _,
-      inl (succeeded g.V.Device.told g.V.Device.faults (run_taken c.args.input.now) device batch (g.K.Cabinet.faults c.args.cabinet.now) c.args.history.now c.args.attempt c.args.recorder.now c.forward_output.new.recorder s
+      inl (succeeded g.V.Device.told g.V.Device.faults asked device batch (g.K.Cabinet.faults c.args.cabinet.now) c.args.history.now attempt old new s taken.limits drawn given made
           _ f.0 f.1),
+      became_well asked given c.args.history.now old.log new.log (forwarded_on g.V.Device.told g.V.Device.faults asked attempt old new f.0 f.1) (Shuffled attempt) made made.shuffled.failed,
       c.work_forwarded.ensures f.0 (subst (AreJoined (run_taken c.args.input.now) f.0) (sym c.forward.ensures) f.2),
     )
 
 pub returns : goal.returns
-returns g c = λ device batch s.
+returns g c = λ device batch given s made.
     let asked = run_taken c.args.input.now in
     let cabinet = stand g.K.Cabinet.told g.K.Cabinet.faults g.K.Cabinet.heard in
     let printer = stand g.P.Printer.told g.P.Printer.faults g.P.Printer.heard in (
       _,
       broken_off g.V.Device.told g.V.Device.faults asked device batch (g.K.Cabinet.faults c.args.cabinet.now) c.args.history.now c.args.attempt c.args.recorder.now c.forward_output.new.recorder s
-          _ c.in-Err.fault c.in-Err.ensures.broken,
+          _ given c.in-Err.fault c.in-Err.ensures.broken,
+      became_broken asked given c.args.history.now c.args.recorder.now.log c.forward_output.new.recorder.log
+          (broken_on g.V.Device.told g.V.Device.faults asked c.args.attempt c.args.recorder.now c.forward_output.new.recorder c.in-Err.fault c.in-Err.ensures.broken)
+          (Shuffled c.args.attempt) made c.in-Err.fault made.shuffled.failed,
       subst (λ status. Settles (failed_work status (records_of asked c.forward_output.new.recorder.trace c.args.history.now)) (cabinet c.args.cabinet.now) (cabinet c.work_failed.new.cabinet) (printer c.args.printer.now) (printer c.work_failed.new.printer) c.work_failed.result)
           c.status_of_fault-status.ensures c.work_failed.ensures,
     )
