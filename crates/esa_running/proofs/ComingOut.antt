@@ -57,7 +57,7 @@ use Rattle.esa_running.specs.ComingOut.{batch_told, batch_part, batch_record, Is
 use Rattle.esa_running.specs.Forwarding.{Forwards, BreaksOff}
 use Rattle.esa_running.specs.Run.{Asked}
 use Rattle.esa_running.specs.RunOwes.{EndsShuffle, fault_status}
-use Rattle.esa_running.specs.Wanted.{sizes_in, turns_in, block_keys, outer_keys, drop_key}
+use Rattle.esa_running.specs.Wanted.{sizes_in, turns_by, block_keys, outer_keys, drop_key}
 use Rattle.esa_running.proofs.SentLaws.{forwarded_whole, same_number}
 
 -- ---- the draws
@@ -95,7 +95,7 @@ not_alone owner history some alone = some (ap (lists owner) alone ∙ lists-firs
 
 module _ (asked : Asked) (taken acted : Stand Files) (history : List ℕ) (log : List Carried) (o : Outcome)
     (gave : HasGiven (sizes_in asked) (batch_told asked taken.told) (batch_part asked) taken.heard acted.heard (history ≢ (sizes_in asked).workers ∷ [])
-    (IsShuffledFrom (sizes_in asked) asked.draws (turns_in asked) (outer_keys asked) (block_keys asked) history log o))
+    (IsShuffledFrom (sizes_in asked) asked.draws (turns_by asked history) (outer_keys asked) (block_keys asked) history log o))
   where
     pub loaded : IsLoaded asked taken acted history gave.given
     loaded = record {
@@ -111,7 +111,7 @@ module _ (asked : Asked) (taken acted : Stand Files) (history : List ℕ) (log :
     none_good p ds a made none good = let never : None ≡ Some a = sym (ap (good_attempt p ds 0) none) ∙ good in cc never
 
     -- a shuffle that succeeded had an attempt
-    all_given : (seen : Seen) (a : ℕ) → ArePlanned (sizes_in asked) → seen.history ≡ history → IsShuffled (sizes_in asked) asked.draws (turns_in asked) seen a
+    all_given : (seen : Seen) (a : ℕ) → ArePlanned (sizes_in asked) → seen.history ≡ history → IsShuffled (sizes_in asked) asked.draws (turns_by asked seen.history) seen a
         → first (sizes_in asked) gave.load.count ≡ asked.batch.count
     all_given seen a planned is s =
         let p = sizes_in asked in
@@ -255,15 +255,15 @@ module _ {V : Type 0} (told : V → Option (List (List ℕ))) (faults : V → �
 
   -- where the log is faithful, they are of the records of the batch
   pub of_batch : (history given : List ℕ) → ArePlanned (sizes_in asked) → a < (sizes_in asked).attempts → IsDrawn (sizes_in asked) (asked.draws a)
-      → good_attempt (sizes_in asked) asked.draws 0 (turns_in asked) ≡ Some a → IsMadeOf asked history old.log (outcome.Shuffled a) given → IsFaithful (sizes_in asked) new.log
-      → AreOfBatch asked a given f.forwarded.first f.forwarded.second envelopes
+      → good_attempt (sizes_in asked) asked.draws 0 (turns_by asked history) ≡ Some a → IsMadeOf asked history old.log (outcome.Shuffled a) given → IsFaithful (sizes_in asked) new.log
+      → AreOfBatch asked a history given f.forwarded.first f.forwarded.second envelopes
   of_batch history given planned within drawn good m faithful =
       let p = sizes_in asked in
       let done = f.forwarded in
       let drops = drops_in (drop_key asked) asked.drops in
       let on = forwarded_on told faults asked a old new envelopes f in
       let before : IsFaithful p old.log = faithful-front p old.log on.0 (subst (IsFaithful p) on.1 faithful) in
-      let b = batch_comes_out told faults p asked.draws (turns_in asked) a (outer_keys asked) (block_keys asked) planned within drawn good m.count given m.whole old new
+      let b = batch_comes_out told faults p asked.draws (turns_by asked history) a (outer_keys asked) (block_keys asked) planned within drawn good m.count given m.whole old new
       (m.shuffled.output a refl before) faithful (drop_key asked) asked.drops t (concat envelopes) done in
       let kept : envelopes ≡ kept_of asked b.out =
       sent_is

@@ -3,6 +3,7 @@ mod ComingOut
 mod Fitting
 mod Forwarded
 mod Joining
+mod Modes
 mod Needed
 mod RanEnds
 mod Rooms
@@ -11,4 +12,5 @@ mod ScanEnds
 mod SentLaws
 mod Shuffled
 mod Stages
+mod Turned
 mod TurnsLaws

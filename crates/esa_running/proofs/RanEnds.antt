@@ -17,13 +17,12 @@ use Rattle.esa_refusal.specs.declared.status.DeviceAt.TheVariants.{Slot as AtSlo
 use Rattle.esa_refusal.specs.declared.status.Status.TheVariants as status
 use Rattle.esa_refusal.specs.Failures.{verdicts_of}
 use Rattle.esa_shuffle.specs.Runs.{IsShuffled}
-use Rattle.esa_shuffling.proofs.Turning.{made_few}
 use Rattle.esa_command.specs.Doing.{failed_work}
 use Rattle.esa_running.specs.Run.{Asked}
 use Rattle.esa_running.specs.RunOwes.{EndsShuffle, records_owed, where_made, HasOverflowed, HasFailedAt, IsTamperedAt, IsUnloaded}
 use Rattle.esa_running.specs.RunWork.{FitFiles}
 use Rattle.esa_running.specs.StoredTurns.{IsHistory}
-use Rattle.esa_running.specs.Wanted.{sizes_in, turns_in}
+use Rattle.esa_running.specs.Wanted.{sizes_in, turns_by, HasFewAttempts}
 use Rattle.esa_running.proofs.Fitting.{front_fits}
 
 module _ (asked : Asked) (seen : Seen) (last : List ℕ) (failures : List Verdict) where
@@ -34,7 +33,7 @@ module _ (asked : Asked) (seen : Seen) (last : List ℕ) (failures : List Verdic
   -- ---- what is owed
 
   pub overflowed : (kept : Failures) → verdicts_of kept ≡ failures → Ended outcome.Overflow → HasOverflowed asked seen (failed_work (status.Overflow kept) (records_owed asked seen))
-  overflowed kept is e = record { failures = kept; ends = subst (Overflows (sizes_in asked) asked.draws (turns_in asked) seen) (sym is) e.outcome; owed = refl }
+  overflowed kept is e = record { failures = kept; ends = subst (Overflows (sizes_in asked) asked.draws (turns_by asked seen.history) seen) (sym is) e.outcome; owed = refl }
 
   pub failed_at : (number : ℕ) → Ended (outcome.DeviceFault number) → HasFailedAt asked seen (failed_work (status.DeviceFault (AtSlot number)) (records_owed asked seen))
   failed_at number e = record { number = number; ends = e.outcome; owed = refl }
@@ -48,30 +47,30 @@ module _ (asked : Asked) (seen : Seen) (last : List ℕ) (failures : List Verdic
   -- no more attempts have failed than are planned
   pub few_failures : Ended outcome.Overflow → length failures ≤ (sizes_in asked).attempts
   few_failures e =
-      omega (arith, ap length e.outcome.verdicts, length-map (below (sizes_in asked).attempts) (verdict_in (sizes_in asked) asked.draws (turns_in asked)), length-range_with_len 0 (sizes_in asked).attempts)
+      omega (arith, ap length e.outcome.verdicts, length-map (below (sizes_in asked).attempts) (verdict_in (sizes_in asked) asked.draws (turns_by asked seen.history)), length-range_with_len 0 (sizes_in asked).attempts)
 
   -- ---- what tells of it fits its files
 
   -- the accesses of a shuffle that succeeded are a front of those of its stored turns
-  stored_front : (a : ℕ) → IsShuffled (sizes_in asked) asked.draws (turns_in asked) seen a → Begins seen.trace (trace (sizes_in asked) asked.draws (stored (sizes_in asked) seen))
+  stored_front : (a : ℕ) → IsShuffled (sizes_in asked) asked.draws (turns_by asked seen.history) seen a → Begins seen.trace (trace (sizes_in asked) asked.draws (stored (sizes_in asked) seen))
   stored_front a s =
       let p = sizes_in asked in
       let hs = stored p seen in
       subst (λ xs. Begins xs (trace p asked.draws hs)) (sym s.made) (joined-front (shuffle_trace p asked.draws hs) (scans p (good_attempt p asked.draws 0 hs)))
 
-  few_stored : (a : ℕ) → IsShuffled (sizes_in asked) asked.draws (turns_in asked) seen a → length (stored (sizes_in asked) seen) ≤ (sizes_in asked).attempts
-  few_stored a s = omega (arith, ap length s.turns, length-take (a + 1) (turns_in asked), s.planned)
+  few_stored : (a : ℕ) → IsShuffled (sizes_in asked) asked.draws (turns_by asked seen.history) seen a → length (stored (sizes_in asked) seen) ≤ (sizes_in asked).attempts
+  few_stored a s = omega (arith, ap length s.turns, length-take (a + 1) (turns_by asked seen.history), s.planned)
 
-  module _ (planned : ArePlanned (sizes_in asked)) where
-    fits_by : Begins seen.trace (trace (sizes_in asked) asked.draws (turns_in asked)) → IsHistory (sizes_in asked).workers seen.history → FitFiles (sizes_in asked).workers seen.trace seen.history
+  module _ (planned : ArePlanned (sizes_in asked)) (few : HasFewAttempts asked seen.history) where
+    fits_by : Begins seen.trace (trace (sizes_in asked) asked.draws (turns_by asked seen.history)) → IsHistory (sizes_in asked).workers seen.history → FitFiles (sizes_in asked).workers seen.trace seen.history
     fits_by front turns =
-        front_fits (sizes_in asked) asked.draws (turns_in asked) seen.trace seen.history planned (made_few (sizes_in asked) asked.draws asked.turns) front turns
+        front_fits (sizes_in asked) asked.draws (turns_by asked seen.history) seen.trace seen.history planned few front turns
 
     pub ended_fits : (o : Outcome) → Ended o → FitFiles (sizes_in asked).workers seen.trace seen.history
     ended_fits (outcome.Shuffled a) e =
         front_fits (sizes_in asked) asked.draws (stored (sizes_in asked) seen) seen.trace seen.history planned (few_stored a e.outcome) (stored_front a e.outcome) e.outcome.history
-    ended_fits outcome.Overflow e = fits_by (whole seen.trace (trace (sizes_in asked) asked.draws (turns_in asked)) e.outcome.whole) e.outcome.history
+    ended_fits outcome.Overflow e = fits_by (whole seen.trace (trace (sizes_in asked) asked.draws (turns_by asked seen.history)) e.outcome.whole) e.outcome.history
     ended_fits (outcome.DeviceFault number) e = fits_by e.outcome.cut.front e.outcome.cut.history
     ended_fits (outcome.Tampered number) e = fits_by e.outcome.cut.front e.outcome.cut.history
     ended_fits outcome.BatchFailed e =
-        fits_by (load-front (sizes_in asked) asked.draws (turns_in asked) (length seen.trace) seen.trace e.outcome.there e.outcome.written) e.outcome.history
+        fits_by (load-front (sizes_in asked) asked.draws (turns_by asked seen.history) (length seen.trace) seen.trace e.outcome.there e.outcome.written) e.outcome.history

@@ -16,26 +16,26 @@ use Rattle.esa_vault.specs.declared.fault.VaultFault.TheVariants.{Device, Tamper
 use Rattle.esa_command.specs.Asked.{number_of}
 use Rattle.esa_command.specs.Doing.{failed_work}
 use Rattle.esa_shuffle.specs.Runs.{IsShuffled, seen_of}
-use Rattle.esa_shuffling.proofs.Turning.{made_few}
 use Rattle.esa_running.specs.declared.purpose.Purpose.{Purpose}
 use Rattle.esa_running.specs.ComingOut.{IsMadeOf}
 use Rattle.esa_running.specs.Forwarding.{Forwards, BreaksOff}
 use Rattle.esa_running.specs.Run.{Asked}
 use Rattle.esa_running.specs.RunOwes.{fault_status, records_owed, HasSucceeded, HasEnded}
 use Rattle.esa_running.specs.RunWork.{FitFiles, success_work}
-use Rattle.esa_running.specs.Wanted.{sizes_in, turns_in, block_keys, drop_key}
+use Rattle.esa_running.specs.Wanted.{sizes_in, turns_by, block_keys, drop_key}
 use Rattle.esa_running.proofs.ComingOut.{of_batch}
 use Rattle.esa_running.proofs.Fitting.{front_fits}
 use Rattle.esa_running.proofs.Shuffled.{shuffled_succeeds, EndsAt, shuffled_fails}
+use Rattle.esa_running.proofs.Turned.{few_shuffled}
 
 module _ {V : Type 0} (told : V → Option (List (List ℕ))) (faults : V → ℕ) (asked : Asked) (device batch now : ℕ) (history : List ℕ) (a : ℕ) (old new : Recorded V)
-    (s : IsShuffled (sizes_in asked) asked.draws (turns_in asked) (seen_of faults device batch old history now) a) where
+    (s : IsShuffled (sizes_in asked) asked.draws (turns_by asked history) (seen_of faults device batch old history now) a) where
   abbrev seen : Seen
   seen = seen_of faults device batch new history now
 
-  succeeds : (envelopes : List (List ℕ)) → Forwards told faults asked a old new envelopes → Succeeds (sizes_in asked) asked.draws (turns_in asked) seen a
+  succeeds : (envelopes : List (List ℕ)) → Forwards told faults asked a old new envelopes → Succeeds (sizes_in asked) asked.draws (turns_by asked history) seen a
   succeeds envelopes f =
-      shuffled_succeeds told faults (sizes_in asked) asked.draws (turns_in asked) device batch now history a old new s (block_keys asked) (drop_key asked) asked.drops (number_of asked.job field.T) (concat envelopes) f.forwarded
+      shuffled_succeeds told faults (sizes_in asked) asked.draws (turns_by asked history) device batch now history a old new s (block_keys asked) (drop_key asked) asked.drops (number_of asked.job field.T) (concat envelopes) f.forwarded
 
   module _ (planned : ArePlanned (sizes_in asked)) (drawn : IsDrawn (sizes_in asked) (asked.draws a)) (given : List ℕ) (made : IsMadeOf asked history old.log (outcome.Shuffled a) given) where
     pub succeeded : (purpose : Purpose) (envelopes : List (List ℕ)) → Forwards told faults asked a old new envelopes → HasSucceeded purpose told faults asked given seen new (success_work purpose asked a envelopes new.trace history)
@@ -53,10 +53,10 @@ module _ {V : Type 0} (told : V → Option (List (List ℕ))) (faults : V → �
 
   -- one of the scans ended early
   abbrev Broken : VaultFault → Type 0
-  Broken fault = EndsAt told faults (sizes_in asked) asked.draws (turns_in asked) device batch now history a old new s (block_keys asked) fault
+  Broken fault = EndsAt told faults (sizes_in asked) asked.draws (turns_by asked history) device batch now history a old new s (block_keys asked) fault
 
   broken : {T : Type 0} (fault : VaultFault) → BreaksOff {V = V} {T = T} told faults asked a old new (Err fault) → Broken fault
-  broken {T} fault breaks = shuffled_fails told faults (sizes_in asked) asked.draws (turns_in asked) device batch now history a old new s T (block_keys asked) fault breaks
+  broken {T} fault breaks = shuffled_fails told faults (sizes_in asked) asked.draws (turns_by asked history) device batch now history a old new s T (block_keys asked) fault breaks
 
   owed : (purpose : Purpose) (given : List ℕ) (fault : VaultFault) → Broken fault → HasEnded purpose told faults asked given seen new (failed_work (fault_status fault) (records_owed asked seen))
   owed purpose given (Device number) ends = inr (inr (inl (record { number = number; ends = ends; owed = refl })))
@@ -69,13 +69,13 @@ module _ {V : Type 0} (told : V → Option (List (List ℕ))) (faults : V → �
   -- ---- what tells of it fits its files
 
   module _ (planned : ArePlanned (sizes_in asked)) where
-    fits : Begins new.trace (trace (sizes_in asked) asked.draws (turns_in asked)) → FitFiles (sizes_in asked).workers new.trace history
-    fits front = front_fits (sizes_in asked) asked.draws (turns_in asked) new.trace history planned (made_few (sizes_in asked) asked.draws asked.turns) front s.history
+    fits : Begins new.trace (trace (sizes_in asked) asked.draws (turns_by asked history)) → FitFiles (sizes_in asked).workers new.trace history
+    fits front = front_fits (sizes_in asked) asked.draws (turns_by asked history) new.trace history planned (few_shuffled asked (seen_of faults device batch old history now) a s) front s.history
 
     pub success_fits : (envelopes : List (List ℕ)) → Forwards told faults asked a old new envelopes → FitFiles (sizes_in asked).workers new.trace history
-    success_fits envelopes f = fits (whole new.trace (trace (sizes_in asked) asked.draws (turns_in asked)) (succeeds envelopes f).whole)
+    success_fits envelopes f = fits (whole new.trace (trace (sizes_in asked) asked.draws (turns_by asked history)) (succeeds envelopes f).whole)
 
-    broken_front : (fault : VaultFault) → Broken fault → Begins new.trace (trace (sizes_in asked) asked.draws (turns_in asked))
+    broken_front : (fault : VaultFault) → Broken fault → Begins new.trace (trace (sizes_in asked) asked.draws (turns_by asked history))
     broken_front (Device number) ends = ends.cut.front
     broken_front (Tampered number) ends = ends.cut.front
 

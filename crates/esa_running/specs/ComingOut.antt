@@ -26,7 +26,7 @@ use Rattle.esa_command.specs.Taking.{name_of}
 use Rattle.esa_shuffle.specs.Loading.{IsGiven}
 use Rattle.esa_shuffle.specs.Records.{IsShuffledFrom, record_at, records_given}
 use Rattle.esa_running.specs.Run.{Asked}
-use Rattle.esa_running.specs.Wanted.{sizes_in, turns_in, block_keys, outer_keys, drop_key}
+use Rattle.esa_running.specs.Wanted.{sizes_in, turns_by, block_keys, outer_keys, drop_key}
 
 -- ---- what the load was given
 
@@ -82,10 +82,10 @@ kept_of asked records = forward asked.batch.form (drop_key asked) asked.drops (n
 -- the load was given the whole batch. Its records came out of an attempt, none lost or doubled, in the order of the
 -- definition, and both scans of the output were given them. The envelopes are what is kept of them, and their database is that
 -- of what is kept of the batch by place, whoever opens them
-pub record AreOfBatch (asked : Asked) (attempt : ℕ) (given : List ℕ) (first second envelopes : List (List ℕ)) : Type 0 where
+pub record AreOfBatch (asked : Asked) (attempt : ℕ) (history given : List ℕ) (first second envelopes : List (List ℕ)) : Type 0 where
   pub whole : length given ≡ envelope_length asked.batch.form * asked.batch.count
   pub out : List Item
-  pub order : ComesOut (sizes_in asked) asked.draws (turns_in asked) attempt (batch_records asked given) out
+  pub order : ComesOut (sizes_in asked) asked.draws (turns_by asked history) attempt (batch_records asked given) out
   pub permuted : IsPermutation (batch_records asked given) out
   pub first_scan : items_from (sizes_in asked) (block_keys asked) attempt 0 first ≡ out
   pub second_scan : items_from (sizes_in asked) (block_keys asked) attempt 0 second ≡ out
@@ -100,4 +100,4 @@ pub record IsMadeOf (asked : Asked) (history : List ℕ) (log : List Carried) (o
   pub count : ℕ
   pub whole : length given ≡ envelope_length asked.batch.form * count
   pub all : (a : ℕ) → o ≡ outcome.Shuffled a → count ≡ asked.batch.count
-  pub shuffled : IsShuffledFrom (sizes_in asked) asked.draws (turns_in asked) (outer_keys asked) (block_keys asked) history log o given
+  pub shuffled : IsShuffledFrom (sizes_in asked) asked.draws (turns_by asked history) (outer_keys asked) (block_keys asked) history log o given

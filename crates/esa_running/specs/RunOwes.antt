@@ -25,12 +25,12 @@ use Rattle.esa_running.specs.ComingOut.{IsLoaded, Became, AreOfBatch}
 use Rattle.esa_running.specs.Forwarding.{Forwards}
 use Rattle.esa_running.specs.Run.{Asked}
 use Rattle.esa_running.specs.RunWork.{records_of, success_work}
-use Rattle.esa_running.specs.Wanted.{sizes_in, turns_in, block_keys}
+use Rattle.esa_running.specs.Wanted.{sizes_in, turns_by, block_keys}
 
 -- how the shuffle of what is asked for ends, by its outcome: of what is seen of it, and of the bytes that were read last
 abbrev pub EndsShuffle : Asked → Seen → (last : List ℕ) → (failures : List Verdict) → Outcome → Type 0
 EndsShuffle asked seen last failures outcome =
-    EndsRun (sizes_in asked) asked.draws (turns_in asked) seen (opens_last (sizes_in asked) (block_keys asked) last) failures outcome
+    EndsRun (sizes_in asked) asked.draws (turns_by asked seen.history) seen (opens_last (sizes_in asked) (block_keys asked) last) failures outcome
 
 -- the files that tell how it went
 abbrev pub records_owed : Asked → Seen → List Write
@@ -58,19 +58,19 @@ pub record IsNotLaid (seen : Seen) (work : Work) : Type 0 where
 -- each attempt failed
 pub record HasOverflowed (asked : Asked) (seen : Seen) (work : Work) : Type 0 where
   pub failures : Failures
-  pub ends : Overflows (sizes_in asked) asked.draws (turns_in asked) seen (verdicts_of failures)
+  pub ends : Overflows (sizes_in asked) asked.draws (turns_by asked seen.history) seen (verdicts_of failures)
   pub owed : work ≡ failed_work (status.Overflow failures) (records_owed asked seen)
 
 -- the device failed at an access to the slot of this number
 pub record HasFailedAt (asked : Asked) (seen : Seen) (work : Work) : Type 0 where
   pub number : ℕ
-  pub ends : DeviceFails (sizes_in asked) asked.draws (turns_in asked) seen number
+  pub ends : DeviceFails (sizes_in asked) asked.draws (turns_by asked seen.history) seen number
   pub owed : work ≡ failed_work (status.DeviceFault (AtSlot number)) (records_owed asked seen)
 
 -- the block that was read last, of the slot of this number, doesn't open
 pub record IsTamperedAt (asked : Asked) (seen : Seen) (last : List ℕ) (work : Work) : Type 0 where
   pub number : ℕ
-  pub ends : BlockIsTampered (sizes_in asked) asked.draws (turns_in asked) seen (opens_last (sizes_in asked) (block_keys asked) last) number
+  pub ends : BlockIsTampered (sizes_in asked) asked.draws (turns_by asked seen.history) seen (opens_last (sizes_in asked) (block_keys asked) last) number
   pub owed : work ≡ failed_work (status.Tampered number) (records_owed asked seen)
 
 -- the batch couldn't be read a second time, in the load
@@ -81,13 +81,13 @@ pub record IsUnloaded (asked : Asked) (seen : Seen) (work : Work) : Type 0 where
 -- the shuffle succeeded: what is forwarded of its output is counted or handed on
 pub record HasSucceeded {V : Type 0} (purpose : Purpose) (told : V → Option (List (List ℕ))) (faults : V → ℕ) (asked : Asked) (given : List ℕ) (seen : Seen) (now : Recorded V) (work : Work) : Type 0 where
   pub attempt : ℕ
-  pub ends : Succeeds (sizes_in asked) asked.draws (turns_in asked) seen attempt
+  pub ends : Succeeds (sizes_in asked) asked.draws (turns_by asked seen.history) seen attempt
   -- the recorder before the output was scanned, and what is forwarded
   pub shuffled : Recorded V
   pub envelopes : List (List ℕ)
   pub forwards : Forwards told faults asked attempt shuffled now envelopes
   -- where the device gave back what was written, these are of the records of the batch
-  pub comes_out : IsFaithful (sizes_in asked) now.log → AreOfBatch asked attempt given forwards.forwarded.first forwards.forwarded.second envelopes
+  pub comes_out : IsFaithful (sizes_in asked) now.log → AreOfBatch asked attempt seen.history given forwards.forwarded.first forwards.forwarded.second envelopes
   pub owed : work ≡ success_work purpose asked attempt envelopes seen.trace seen.history
 
 -- ---- what it owes

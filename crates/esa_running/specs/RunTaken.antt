@@ -1,8 +1,9 @@
 -- What run and shuffle have taken in.
-use Rattle.std.specs.Prelude.{◌≡◌, true, false, IsSome}
+use Rattle.std.specs.Prelude.{◌≡◌, Bool, true, false, IsSome}
 use Rattle.esa_coins.specs.AnyCoins.{any_plan}
 use Rattle.esa_job.specs.declared.keys.KeyField.{KeyField}
 use Rattle.esa_job.specs.Keys.{needs_key, key_of}
+use Rattle.esa_job.specs.Refusal.{runs_crew}
 use Rattle.esa_job.specs.Seen.{request_of}
 use Rattle.esa_model.specs.Turns.{AreWorkers}
 use Rattle.esa_params.specs.Sizes.{ArePlanned}
@@ -30,3 +31,7 @@ pub record IsTaken (input : RunInput) : Type 0 where
   pub limits : ArePlanned (sizes_in (run_taken input))
   pub turns : AreWorkers (sizes_in (run_taken input)).workers input.turns
   pub coins : any_plan input.coins ≡ sizes_in (run_taken input)
+
+-- it asks for a crew only where a job may
+abbrev pub MayRun : (crews : Bool) → RunInput → Type 0
+MayRun crews input = runs_crew (request_of input.job) ≡ true → crews ≡ true

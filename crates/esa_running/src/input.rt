@@ -6,7 +6,7 @@ ghost use Rattle.esa_command.specs.Judged.{Judged};
 ghost use Rattle.esa_command.specs.Stand.{stand};
 ghost use Rattle.esa_command.specs.Taking.{name_of};
 ghost use Rattle.esa_running.specs.Run.{Shuffles, IsInside, run_steps};
-ghost use Rattle.esa_running.specs.RunTaken.{IsTaken, run_taken};
+ghost use Rattle.esa_running.specs.RunTaken.{IsTaken, MayRun, run_taken};
 
 use crate::taking::{plan_with, take_batch, take_drops};
 use esa_batcher::Scanned;
@@ -46,6 +46,7 @@ pub fn take_run<K: Cabinet>(
     ensures judged { Judged 0 6 run_taken (run_steps command crew_allowed name.now)
         (stand K.told K.faults K.heard cabinet.old) (stand K.told K.faults K.heard cabinet.new) result }
     ensures taken { IfOk result IsTaken }
+    ensures mode { IfOk result (MayRun crew_allowed) }
     ensures command { IfOk result (λ input. (request_of input.job).command ≡ command) }
     ensures inside { IfOk result (λ input. IsInside (K.told cabinet.new) (name_of (request_of input.job) JobField.Input) input.batch) }
 {

@@ -2,13 +2,13 @@
 
 ghost use Rattle.std.specs.Prelude.{◌≡◌, ◌≢◌, ◌∷◌, ◌+◌, ◌≤◌, ℕ, List, [], length, false, Some, IfOk, IfErr, MatchResult};
 ghost use Rattle.esa_header.specs.Header.{header_length};
+ghost use Rattle.esa_job.specs.Refusal.{runs_crew};
 ghost use Rattle.esa_job.specs.Seen.{request_of};
-ghost use Rattle.esa_model.specs.Forecast.{made};
 ghost use Rattle.esa_params.specs.Form.{envelope_length};
 ghost use Rattle.esa_params.specs.Slots.{greatest_trace};
 ghost use Rattle.esa_shuffle.specs.Loading.{HasGiven};
 ghost use Rattle.esa_shuffle.specs.Records.{IsShuffledFrom};
-ghost use Rattle.esa_shuffle.specs.Runs.{EndsRun, opens_last, seen_of};
+ghost use Rattle.esa_shuffle.specs.Runs.{seen_of};
 ghost use Rattle.esa_shuffling.specs.Drawn.{draws_of};
 ghost use Rattle.esa_command.specs.Ends.{EndsBy};
 ghost use Rattle.esa_command.specs.Stand.{stand};
@@ -20,11 +20,12 @@ ghost use Rattle.esa_running.specs.Run.{IsInside, run_steps};
 ghost use Rattle.esa_running.specs.RunEnded.{HasActed, HasWorked, IsIdle, history_in};
 ghost use Rattle.esa_running.specs.RunOwes.{EndsShuffle, RunOwes};
 ghost use Rattle.esa_running.specs.RunTaken.{IsTaken, run_taken};
-ghost use Rattle.esa_running.specs.Wanted.{block_keys, outer_keys};
+ghost use Rattle.esa_running.specs.Wanted.{block_keys, outer_keys, turns_by, HasFewAttempts};
 
 use crate::ending::work_ended;
 use crate::input::{RunInput, take_run};
 use crate::purpose::Purpose;
+use crate::shuffle_mode::shuffle_by_turns;
 use crate::working::{Store, store_for};
 use esa_batcher::BatchFile;
 use esa_command::settle_failed;
@@ -33,7 +34,7 @@ use esa_floor::History;
 use esa_job::JobField;
 use esa_outside::{Cabinet, Printer};
 use esa_refusal::{DeviceAt, End, Status};
-use esa_shuffle::{NoRun, Ran, run_turns};
+use esa_shuffle::{NoRun, Ran};
 use std::alloc::Global;
 
 /// How a shuffle ended, and what it leaves beside its files and lines.
@@ -53,6 +54,7 @@ fn shuffle_records<K: Cabinet, V: Device>(
     recorder: Recorder<V>,
     input: &RunInput,
 ) -> Result<Ran<V>, NoRun<V>>
+    requires mode { runs_crew (request_of input.now.job) ≡ false }
     requires taken { IsTaken input.now }
     requires name { batch.old.name.now ≡ name_of (request_of input.now.job) JobField.Input }
     requires start { batch.old.start ≡ header_length input.now.batch.form }
@@ -61,14 +63,14 @@ fn shuffle_records<K: Cabinet, V: Device>(
     requires ready { recorder.plan ≡ Some input.now.plan }
     requires trace { recorder.trace ≡ [] }
     requires room { greatest_trace input.now.plan ≤ recorder.room }
-    ensures ends { IfOk result (λ ran. EndsRun input.now.plan (draws_of input.now.coins) (made input.now.plan (draws_of input.now.coins) input.now.turns)
-        (seen_of V.faults (V.faults recorder.device) (K.faults batch.old.cabinet.now) ran.recorder ran.history (K.faults batch.new.cabinet.now))
-        (opens_last input.now.plan (block_keys (run_taken input.now)) ran.recorder.last) ran.failures ran.outcome) }
+    ensures ends { IfOk result (λ ran. EndsShuffle (run_taken input.now)
+        (seen_of V.faults (V.faults recorder.device) (K.faults batch.old.cabinet.now) ran.recorder ran.history (K.faults batch.new.cabinet.now)) ran.recorder.last ran.failures ran.outcome) }
+    ensures few { IfOk result (λ ran. HasFewAttempts (run_taken input.now) ran.history) }
 
     // What the load was given are records of the batch, and the shuffle is made of them.
     ensures given { IfOk result (λ ran. let asked = run_taken input.now in
         HasGiven input.now.plan (batch_told asked (K.told batch.old.cabinet.now)) (batch_part asked) (K.heard batch.old.cabinet.now) (K.heard batch.new.cabinet.now)
-        (ran.history ≢ input.now.plan.workers ∷ []) (IsShuffledFrom input.now.plan (draws_of input.now.coins) (made input.now.plan (draws_of input.now.coins) input.now.turns)
+        (ran.history ≢ input.now.plan.workers ∷ []) (IsShuffledFrom input.now.plan (draws_of input.now.coins) (turns_by asked ran.history)
         (outer_keys asked) (block_keys asked) ran.history ran.recorder.log ran.outcome)) }
     ensures ready { IfOk result (λ ran. ran.recorder.plan ≡ Some input.now.plan) }
     ensures room { IfOk result (λ ran. greatest_trace input.now.plan ≤ length ran.recorder.trace + ran.recorder.room) }
@@ -77,16 +79,7 @@ fn shuffle_records<K: Cabinet, V: Device>(
     ensures given_back { IfErr result (λ none. none.recorder ≡ recorder) }
     ensures untouched { IfErr result (λ _. batch.new ≡ batch.old) }
 {
-    run_turns(
-        alloc,
-        input.plan,
-        input.outer_keys(),
-        input.block_keys(),
-        &input.coins,
-        batch,
-        recorder,
-        &input.turns,
-    )
+    shuffle_by_turns(alloc, input, batch, recorder)
 }
 
 /// Shuffles a batch. Where there is no memory for that nothing was done.
@@ -96,17 +89,18 @@ fn shuffle_batch<K: Cabinet, V: Device>(
     recorder: Recorder<V>,
     input: &RunInput,
 ) -> Result<Ran<V>, NoRun<V>>
+    requires mode { runs_crew (request_of input.now.job) ≡ false }
     requires taken { IsTaken input.now }
     requires inside { IsInside (K.told cabinet.old) (name_of (request_of input.now.job) JobField.Input) input.now.batch }
     requires ready { recorder.plan ≡ Some input.now.plan }
     requires trace { recorder.trace ≡ [] }
     requires room { greatest_trace input.now.plan ≤ recorder.room }
-    ensures ends { IfOk result (λ ran. EndsRun input.now.plan (draws_of input.now.coins) (made input.now.plan (draws_of input.now.coins) input.now.turns)
-        (seen_of V.faults (V.faults recorder.device) (K.faults cabinet.old) ran.recorder ran.history (K.faults cabinet.new))
-        (opens_last input.now.plan (block_keys (run_taken input.now)) ran.recorder.last) ran.failures ran.outcome) }
+    ensures ends { IfOk result (λ ran. EndsShuffle (run_taken input.now)
+        (seen_of V.faults (V.faults recorder.device) (K.faults cabinet.old) ran.recorder ran.history (K.faults cabinet.new)) ran.recorder.last ran.failures ran.outcome) }
+    ensures few { IfOk result (λ ran. HasFewAttempts (run_taken input.now) ran.history) }
     ensures given { IfOk result (λ ran. let asked = run_taken input.now in
         HasGiven input.now.plan (batch_told asked (K.told cabinet.old)) (batch_part asked) (K.heard cabinet.old) (K.heard cabinet.new)
-        (ran.history ≢ input.now.plan.workers ∷ []) (IsShuffledFrom input.now.plan (draws_of input.now.coins) (made input.now.plan (draws_of input.now.coins) input.now.turns)
+        (ran.history ≢ input.now.plan.workers ∷ []) (IsShuffledFrom input.now.plan (draws_of input.now.coins) (turns_by asked ran.history)
         (outer_keys asked) (block_keys asked) ran.history ran.recorder.log ran.outcome)) }
     ensures ready { IfOk result (λ ran. ran.recorder.plan ≡ Some input.now.plan) }
     ensures room { IfOk result (λ ran. greatest_trace input.now.plan ≤ length ran.recorder.trace + ran.recorder.room) }
@@ -138,6 +132,7 @@ fn end_ran<K: Cabinet, P: Printer, V: Device>(
     requires outlet { HasRoom input.now.plan store.outlet }
     requires ready { ran.recorder.plan ≡ Some input.now.plan }
     requires room { greatest_trace input.now.plan ≤ length ran.recorder.trace + ran.recorder.room }
+    requires few { HasFewAttempts (run_taken input.now) ran.history }
     requires ends { (device : ℕ) × (batch : ℕ) × EndsShuffle (run_taken input.now) (seen_of V.faults device batch ran.recorder ran.history (K.faults cabinet.old))
         ran.recorder.last ran.failures ran.outcome }
     ensures works { (device batch : ℕ) (given : List ℕ) → EndsShuffle (run_taken input.now) (seen_of V.faults device batch ran.recorder ran.history (K.faults cabinet.old))
@@ -181,6 +176,7 @@ fn run_ready<K: Cabinet, P: Printer, V: Device>(
     input: &RunInput,
     store: Store,
 ) -> Result<Ended<V>, NoRun<V>>
+    requires mode { runs_crew (request_of input.now.job) ≡ false }
     requires taken { IsTaken input.now }
     requires command { (request_of input.now.job).command ≡ command_for (purpose_of store.outlet) }
     requires inside { IsInside (K.told cabinet.old) (name_of (request_of input.now.job) JobField.Input) input.now.batch }
@@ -210,6 +206,7 @@ fn act<K: Cabinet, P: Printer, V: Device>(
     mut recorder: Recorder<V>,
     input: &RunInput,
 ) -> Result<Ended<V>, NoRun<V>>
+    requires mode { runs_crew (request_of input.now.job) ≡ false }
     requires taken { IsTaken input.now }
     requires command { (request_of input.now.job).command ≡ command_for purpose }
     requires inside { IsInside (K.told cabinet.old) (name_of (request_of input.now.job) JobField.Input) input.now.batch }
@@ -236,7 +233,7 @@ fn act<K: Cabinet, P: Printer, V: Device>(
 
 /// Shuffles a batch on one thread for a purpose. For run it counts the values of the records that are kept and writes their
 /// database; for shuffle it writes these records as a forward file. Then it writes how the shuffle went, where the job names
-/// files for that, and prints its numbers.
+/// files for that, and prints its numbers. A job that asks for a crew is refused.
 pub fn run<K: Cabinet, P: Printer, V: Device>(
     alloc: Global,
     purpose: Purpose,

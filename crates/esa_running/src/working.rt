@@ -11,7 +11,7 @@ ghost use Rattle.esa_running.specs.Outlets.{purpose_of, HasRoom};
 ghost use Rattle.esa_running.specs.Purpose.{command_for};
 ghost use Rattle.esa_running.specs.RunOwes.{HasEnded};
 ghost use Rattle.esa_running.specs.RunTaken.{IsTaken, run_taken};
-ghost use Rattle.esa_running.specs.Wanted.{sizes_in, turns_in};
+ghost use Rattle.esa_running.specs.Wanted.{sizes_in, turns_by};
 ghost use Rattle.esa_shuffle.specs.Runs.{IsShuffled, seen_of};
 
 use crate::forwarding::{forward_output, status_of_fault};
@@ -62,9 +62,9 @@ pub(crate) fn work_shuffled<K: Cabinet, P: Printer, V: Device>(
     requires outlet { HasRoom input.now.plan store.outlet }
     requires ready { recorder.old.plan ≡ Some input.now.plan }
     requires room { 2 * input.now.plan.b ≤ recorder.old.room }
-    requires shuffled { (device : ℕ) × (batch : ℕ) × IsShuffled (sizes_in (run_taken input.now)) (run_taken input.now).draws (turns_in (run_taken input.now))
+    requires shuffled { (device : ℕ) × (batch : ℕ) × IsShuffled (sizes_in (run_taken input.now)) (run_taken input.now).draws (turns_by (run_taken input.now) history.now)
         (seen_of V.faults device batch recorder.old history.now (K.faults cabinet.old)) attempt }
-    ensures { (device batch : ℕ) (given : List ℕ) → IsShuffled (sizes_in (run_taken input.now)) (run_taken input.now).draws (turns_in (run_taken input.now))
+    ensures { (device batch : ℕ) (given : List ℕ) → IsShuffled (sizes_in (run_taken input.now)) (run_taken input.now).draws (turns_by (run_taken input.now) history.now)
         (seen_of V.faults device batch recorder.old history.now (K.faults cabinet.old)) attempt
         → IsMadeOf (run_taken input.now) history.now recorder.old.log (Shuffled attempt) given
         → (work : Work) × HasEnded (purpose_of store.outlet) V.told V.faults (run_taken input.now) given

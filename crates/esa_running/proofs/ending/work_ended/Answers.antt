@@ -3,7 +3,7 @@ use Rattle.esa_params.specs.Slots.{greatest_trace}
 use Rattle.esa_shuffle.specs.Runs.{seen_of}
 use Rattle.esa_running.specs.ComingOut.{IsMadeOf}
 use Rattle.esa_running.specs.RunTaken.{run_taken}
-use Rattle.esa_running.specs.Wanted.{sizes_in, turns_in}
+use Rattle.esa_running.specs.Wanted.{sizes_in, turns_by}
 use Rattle.esa_running.proofs.RanEnds.{Ended, overflowed, failed_at, tampered_at, unloaded, few_failures}
 use Rattle.esa_running.proofs.Rooms.{scans_room}
 use Rattle.esa_running.proofs.ending.work_ended.Goals as goal
@@ -23,7 +23,7 @@ work_shuffled-requires-clause-room g c =
     let shuffled = (subst (Ended asked seen recorder.last c.args.failures.now) c.in-Shuffled.is met.2).outcome in
     let plan = c.requires.taken.plan in
     subst (λ p. 2 * p.b ≤ recorder.room) (sym plan)
-    (scans_room (sizes_in asked) asked.draws (turns_in asked) seen c.in-Shuffled.attempt recorder.room shuffled (subst (λ p. greatest_trace p ≤ length recorder.trace + recorder.room) plan c.requires.room))
+    (scans_room (sizes_in asked) asked.draws (turns_by asked c.args.history.now) seen c.in-Shuffled.attempt recorder.room shuffled (subst (λ p. greatest_trace p ≤ length recorder.trace + recorder.room) plan c.requires.room))
 
 pub returns-in-Shuffled : goal.returns-in-Shuffled
 returns-in-Shuffled g c = λ device batch given met made.

@@ -16,6 +16,7 @@ use Rattle.esa_shuffling.specs.Shuffle.{turns_file, coins_file}
 use Rattle.esa_running.specs.declared.input.RunInput.{RunInput}
 use Rattle.esa_running.specs.Run.{Shuffles, IsInside, sizes_with, drops_file, batch_file, run_steps, run_asked, run_keyed, run_dropped, run_turned, run_batched, run_drawn}
 use Rattle.esa_running.specs.RunTaken.{run_taken}
+use Rattle.esa_running.proofs.Modes.{taken_allowed}
 use Rattle.esa_running.proofs.Needed.{needs}
 use Rattle.esa_running.proofs.Stages.{behind_job, behind_keys, behind_drops, behind_turns, behind_batch}
 use Rattle.esa_running.proofs.input.take_run.Goals as goal
@@ -117,3 +118,8 @@ returns-clause-taken g c = record {
   turns = c.in_ok-turns.ensures.workers;
   coins = c.in_ok-coins.ensures.plan ∙ c.plan_with-plan.ensures.sizes;
 }
+
+pub returns-clause-mode : goal.returns-clause-mode
+returns-clause-mode g c =
+    let stands = stand g.K.Cabinet.told g.K.Cabinet.faults g.K.Cabinet.heard in
+    taken_allowed c.args.command c.args.crew_allowed c.args.name.now (stands c.args.cabinet.now) (stands c.take_job.new.cabinet) c.in_ok-job.job c.in_ok-job.ensures.judged

@@ -25,7 +25,7 @@ work_ended-end-requires-clause-fits g c =
     let asked = run_taken c.args.input.now in
     let met = c.requires.ends in
     let seen = seen_of g.V.Device.faults met.0 met.1 ran.recorder ran.history (g.K.Cabinet.faults c.args.cabinet.now) in
-    subst (FitFiles (sizes_in asked).workers ran.recorder.trace) (sym c.entries.ensures) (ended_fits asked seen ran.recorder.last ran.failures c.requires.taken.limits ran.outcome met.2)
+    subst (FitFiles (sizes_in asked).workers ran.recorder.trace) (sym c.entries.ensures) (ended_fits asked seen ran.recorder.last ran.failures c.requires.taken.limits c.requires.few ran.outcome met.2)
 
 pub returns-clause-works : goal.returns-clause-works
 returns-clause-works g c = λ device batch given met made.

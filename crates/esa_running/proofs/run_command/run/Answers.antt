@@ -1,5 +1,7 @@
 use Rattle.std.proofs.Common.{Ok, Err, refl, sym, subst}
 use Rattle.std.specs.Prelude.{false, []}
+use Rattle.esa_job.specs.Refusal.{runs_crew}
+use Rattle.esa_job.specs.Seen.{request_of}
 use Rattle.esa_refusal.specs.declared.stop.Stop.TheVariants.{OutOfMemory}
 use Rattle.esa_refusal.specs.declared.status.End.TheVariants.{Stopped}
 use Rattle.esa_refusal.specs.declared.status.Status.TheVariants as status
@@ -13,6 +15,7 @@ use Rattle.esa_running.specs.Run.{run_steps}
 use Rattle.esa_running.specs.RunEnded.{IsIdle, history_in}
 use Rattle.esa_running.specs.RunOwes.{RunOwes}
 use Rattle.esa_running.specs.RunTaken.{run_taken}
+use Rattle.esa_running.proofs.Modes.{not_allowed}
 use Rattle.esa_running.proofs.run_command.run.Goals as goal
 
 pub returns-in-Ok-act : goal.returns-in-Ok-act
@@ -53,3 +56,6 @@ returns g c =
     ends_idle run_taken (IsIdle c.args.recorder []) (RunOwes c.args.purpose g.V.Device.told g.V.Device.faults before c.args.recorder []) (run_steps (command_for c.args.purpose) false c.args.name.now)
     (cabinet c.args.cabinet.now) (cabinet c.take_run.new.cabinet) (printer c.args.printer.now) c.in-Err.stop c.from.result c.from.ensures
     (record { trace = c.requires; turns = refl }) judged
+
+pub act-requires-clause-mode : goal.act-requires-clause-mode
+act-requires-clause-mode g c = not_allowed (runs_crew (request_of c.in-Ok.input.job)) false c.in-Ok.ensures.mode refl
