@@ -17,11 +17,17 @@ use Rattle.esa_spec.specs.Places.{exchange_of, output_places}
 use Rattle.esa_spec.specs.Turns.{order}
 use Rattle.esa_stash.specs.Stash.{padded}
 use Rattle.esa_vault.specs.Filled.{text_of}
+use Rattle.esa_vault.specs.Placed.{IsHeld, IsSpelled}
 use Rattle.esa_vault.specs.Seals.{sealed_block}
 use Rattle.esa_floor.specs.Keeping.{HasInput}
 use Rattle.esa_floor.specs.Parts.{Parts}
 use Rattle.esa_floor.specs.declared.turn.Stop.{Stop}
 use Rattle.esa_floor.specs.declared.turn.Stop.TheVariants.{DeviceFault, StashOverflow, Tampered}
+
+-- the item of each place is no dummy, and so many bytes spell it
+pub record AreItems (size : ℕ) (record_of : ℕ → Item) : Type 0 where
+  pub held : (x : ℕ) → IsHeld (record_of x)
+  pub spelled : (x : ℕ) → IsSpelled size (record_of x)
 
 -- the turns of an attempt: those from its owner's entry on, up to the next one
 abbrev pub attempt_turns : {V : Type 0} → Parts V → ℕ → List ℕ

@@ -8,8 +8,8 @@ use crate::told::Told;
 use esa_device::Device;
 use esa_turnstile::Logged;
 
-/// Its entries are those of its history. It is sound where it stands for them, and its queues and slots hold the records of
-/// the input. Its trail is the log of its recorder.
+/// Its entries are those of its history. It is sound where it stands for them, its queues and slots hold the records of the
+/// input, and each write took its block. Its trail is the log of its recorder.
 impl<V: Device, G: Told> Logged for Floor<V, G> {
     type Origin = Roots;
 

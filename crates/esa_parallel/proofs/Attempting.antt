@@ -1,22 +1,32 @@
 -- What the rest of an attempt leaves of what its distribution made.
-use Rattle.std.proofs.Common.{◌≡◌, ℕ, ◌+◌, ◌<◌, List, [], ◌∷◌, ◌++◌, All, length, sym, ap, ◌∙◌, subst, arith}
+use Rattle.std.proofs.Common.{◌≡◌, ℕ, ◌+◌, ◌<◌, List, [], ◌∷◌, ◌++◌, All, length, Option, Some, None, Result, Ok, Err, refl, sym, ap, ◌∙◌, subst, arith}
+use Rattle.std.specs.Prelude.{OnOk}
 use mathlib.Core.List.{IsPrefix}
 use Rattle.esa_floor.specs.Marks.{mark_of, roots_of}
 use Rattle.esa_floor.specs.Parts.{Parts}
-use Rattle.esa_floor.specs.Standing.{turns_made}
+use Rattle.esa_floor.specs.Standing.{Stands, turns_made}
 use Rattle.esa_floor.specs.Trails.{trail_of}
 use Rattle.esa_floor.specs.Working.{Working}
 use Rattle.esa_floor.specs.declared.floor.Roots.{Roots}
+use Rattle.esa_floor.specs.declared.turn.Stop.{Stop}
+use Rattle.esa_floor.specs.declared.turn.Stop.TheVariants as stop
 use Rattle.esa_floor.proofs.Trailing.{texts_begin}
 use Rattle.esa_params.specs.Sizes.{Sizes}
 use Rattle.esa_spec.specs.Draws.{Draw}
 use Rattle.esa_spec.specs.Fronts.{Begins}
+use Rattle.esa_spec.specs.Turns.{order}
+use Rattle.esa_spec.specs.Verdicts.{failing}
+use Rattle.esa_spec.specs.declared.event.Verdict.{Verdict}
+use Rattle.esa_vault.specs.declared.fault.VaultFault.{VaultFault}
+use Rattle.esa_shuffle.specs.Attempts.{EndsByStop}
+use Rattle.esa_shuffle.proofs.Stopped.{overflow_fails}
 use Rattle.esa_turnstile.specs.Passes.{found_trail_of}
 use Rattle.esa_turnstile.specs.declared.pass.Pass.{Pass}
 use Rattle.esa_turnstile.specs.declared.turnstile.Turnstile.{Turnstile}
-use Rattle.esa_workers.specs.Distributions.{AreTurnsOfAll, HasFloor, Rests}
+use Rattle.esa_workers.specs.Distributions.{AreDone, AreTurnsOfAll, HasFloor, Rests}
 use Rattle.esa_workers.specs.declared.posts.Manned.{Manned}
 use Rattle.esa_workers.proofs.Meeting.{front_trans}
+use Rattle.esa_parallel.specs.Crews.{IsDoneByAll}
 
 -- a floor whose recorder and stash have changed
 module _ {V : Type 0} (p : Sizes) (f g : Parts V) (same : g ≡ record f { recorder = g.recorder; stash = g.stash }) where
@@ -54,3 +64,19 @@ module _ {V : Type 0} (p : Sizes) (f g : Parts V) (same : g ≡ record f { recor
     tickets = rests.tickets;
     seen = subst (IsPrefix _) (sym history_is) rests.seen;
   }
+
+-- where an attempt is over and no exchange failed, its turns have not stopped. So each worker found no bucket left
+module _ {V : Type 0} (faults : V → ℕ) (p : Sizes) (ds : ℕ → Draw) (f : Parts V) (a : ℕ) (stands : Stands faults p ds f) (at : f.attempt ≡ Some a) (room : length f.history < f.room) where
+  abbrev DoneBy : Result Verdict VaultFault → Type 0
+  DoneBy end = OnOk end (IsDoneByAll p (ds a) (turns_made f))
+
+  done_by : (end : Result Verdict VaultFault) (s : Option Stop) → f.stop ≡ s → AreDone p s (turns_made f) → EndsByStop s end → DoneBy end
+  done_by (Err why) s is done stopped = tt
+  done_by (Ok v) None is done stopped = λ runs. done
+  done_by (Ok v) (Some (stop.StashOverflow j)) is done stopped = λ runs.
+      absurd (overflow_fails faults p ds f a stands at room j is (ap (λ (q : Sizes). failing q (ds a) (order q.b (turns_made f))) stands.of.plan ∙ runs))
+  done_by (Ok v) (Some (stop.DeviceFault number)) is done stopped = absurd (cc stopped)
+  done_by (Ok v) (Some (stop.Tampered number)) is done stopped = absurd (cc stopped)
+
+  pub done_by_all : (end : Result Verdict VaultFault) → EndsByStop f.stop end → AreTurnsOfAll p f.stop (turns_made f) → DoneBy end
+  done_by_all end stopped all = done_by end f.stop refl all.done stopped

@@ -27,7 +27,7 @@ use Rattle.esa_shuffle.specs.Runs.{AreStored, IsCounted, MayEnd, failed_of, list
 use Rattle.esa_shuffle.proofs.Storing.{lists_are}
 use Rattle.esa_turnstile.specs.Entries.{times}
 use Rattle.esa_workers.proofs.Turning.{begun_is}
-use Rattle.esa_parallel.specs.Crews.{AllTookPart, TookPart}
+use Rattle.esa_parallel.specs.Crews.{AllAreDone, AllTookPart, IsDoneByAll, TookPart}
 
 -- a floor before attempt a, or after the last one: the attempts before it have failed. Before the first one the history had
 -- these entries
@@ -39,6 +39,7 @@ pub record IsBetween {V : Type 0} (faults : V → ℕ) (p : Sizes) (ds : ℕ →
   pub history : f.history ++ p.workers ∷ [] ≡ pre ++ history_of p (lists_ended p f)
   pub failed : failures ≡ map (verdict_in p ds (lists_ended p f)) (below a)
   pub took_part : AllTookPart p (lists_ended p f)
+  pub done : (k : ℕ) → k < a → IsDoneByAll p (ds k) (turns_in (lists_ended p f) k)
 
 -- before the first one
 pub first_between : {V : Type 0} (faults : V → ℕ) (p : Sizes) (ds : ℕ → Draw) (f : Parts V) (failures : List Verdict)
@@ -53,6 +54,7 @@ first_between faults p ds f failures plan next none no_failures =
       history = ap (λ (hs : List (List ℕ)). f.history ++ history_of p hs) (sym empty);
       failed = no_failures;
       took_part = λ k inside. let long = ap length empty in absurd (omega (arith, inside, long));
+      done = λ k inside. absurd (omega (arith, inside));
     }
 
 -- entries of nobody are none
@@ -117,7 +119,7 @@ module _ {V : Type 0} (faults : V → ℕ) (p : Sizes) (ds : ℕ → Draw) (pre 
     earlier : (k : ℕ) → k < a → turns_in (lists_ended p g) k ≡ turns_in hs k
     earlier k few = ap (λ (ls : List (List ℕ)). turns_in ls k) listed ∙ get_or_append_left hs (h ∷ []) [] k (let was = before.count in omega (arith, few, was))
 
-    last : turns_in (lists_ended p g) a ≡ h
+    pub last : turns_in (lists_ended p g) a ≡ h
     last = ap (λ (ls : List (List ℕ)). turns_in ls a) listed ∙ get_or_push hs h [] a before.count
 
     failed_before : failures ≡ map (verdict_in p ds (lists_ended p g)) (below a)
@@ -125,13 +127,28 @@ module _ {V : Type 0} (faults : V → ℕ) (p : Sizes) (ds : ℕ → Draw) (pre 
         before.failed
         ∙ map-below-same (verdict_in p ds hs) (verdict_in p ds (lists_ended p g)) a (λ k few. ap (λ (t : List ℕ). verdict p (ds k) t) (sym (earlier k few)))
 
-    pub took_part_now : AllTookPart p (lists_ended p g)
-    took_part_now k few = elim (cases_eq k a) [
-      | inl this ↦ subst (λ (n : ℕ). TookPart p (turns_in (lists_ended p g) n)) (sym this) (subst (TookPart p) (sym last) took)
-      | inr other ↦
-          let less : k < a = let is = count_now in let apart = other in omega (arith, few, is, apart) in
-          subst (TookPart p) (sym (earlier k less)) (before.took_part k (let was = before.count in omega (arith, less, was)))
+    -- what is so of each attempt before, and of this one
+    each_now : (P : ℕ → List ℕ → Type 0) → ((k : ℕ) → k < a → P k (turns_in hs k)) → P a h → (k : ℕ) → k < a + 1 → P k (turns_in (lists_ended p g) k)
+    each_now P so_far here k few = elim (cases_eq k a) [
+      | inl this ↦ subst (λ (n : ℕ). P n (turns_in (lists_ended p g) n)) (sym this) (subst (P a) (sym last) here)
+      | inr other ↦ let less : k < a = omega (arith, few, other) in subst (P k) (sym (earlier k less)) (so_far k less)
     ]
+
+    pub took_part_now : AllTookPart p (lists_ended p g)
+    took_part_now k few =
+        each_now (λ n. TookPart p) (λ i less. before.took_part i (let was = before.count in omega (arith, less, was))) took k (let is = count_now in omega (arith, few, is))
+
+    done_now : IsDoneByAll p (ds a) h → (k : ℕ) → k < a + 1 → IsDoneByAll p (ds k) (turns_in (lists_ended p g) k)
+    done_now = each_now (λ n. IsDoneByAll p (ds n)) before.done
+
+    pub done_good : IsDoneByAll p (ds a) h → AllAreDone p ds (lists_ended p g) (outcome.Shuffled a)
+    done_good here k few = done_now here k (let is = count_now in omega (arith, few, is))
+
+    pub done_cut : (why : VaultFault) → AllAreDone p ds (lists_ended p g) (outcome_of why)
+    done_cut (fault.Device number) k few =
+        let less : k < a = let is = count_now in omega (arith, few, is) in subst (IsDoneByAll p (ds k)) (sym (earlier k less)) (before.done k less)
+    done_cut (fault.Tampered number) k few =
+        let less : k < a = let is = count_now in omega (arith, few, is) in subst (IsDoneByAll p (ds k)) (sym (earlier k less)) (before.done k less)
 
     room_left : (o : Outcome) → Stands faults p ds (ended_as g o) → length g.history < g.room
     room_left o stands =
@@ -165,8 +182,8 @@ module _ {V : Type 0} (faults : V → ℕ) (p : Sizes) (ds : ℕ → Draw) (pre 
           ap (λ (c : Bool). cond c (cond (is_good (verdict g.plan (ds a) (turns_made g))) false true) false) end.1
           ∙ ap (λ (w : Verdict). cond (is_good w) false true) end.2 ∙ ap (λ (c : Bool). cond c false true) bad
 
-      pub leads_on : g.outcome ≡ None → is_good v ≡ false → IsBetween faults p ds pre (a + 1) g (failures ++ v ∷ [])
-      leads_on goes_on bad = record {
+      pub leads_on : IsDoneByAll p (ds a) h → g.outcome ≡ None → is_good v ≡ false → IsBetween faults p ds pre (a + 1) g (failures ++ v ∷ [])
+      leads_on done goes_on bad = record {
         plan = same;
         next = λ more. begins_again faults p ds g a end.0 (failed_is bad) goes_on more;
         over = λ some is_last. ends_failed faults p ds g a end.0 (failed_is bad) is_last;
@@ -176,6 +193,7 @@ module _ {V : Type 0} (faults : V → ℕ) (p : Sizes) (ds : ℕ → Draw) (pre 
             ap₂ (λ (xs : List Verdict) (w : Verdict). xs ++ w ∷ []) failed_before verdict_now
             ∙ sym (ap (λ (n : ℕ). map (verdict_in p ds (lists_ended p g)) (below n)) (add-one a) ∙ map-below-suc (verdict_in p ds (lists_ended p g)) a);
         took_part = took_part_now;
+        done = done_now done;
       }
 
     -- an access cut it
@@ -214,6 +232,10 @@ ends_all faults p ds pre a f failures before none some last count =
       failed = before.failed ∙ ap (λ (n : ℕ). map (verdict_in p ds (lists_ended p f)) (below n)) (sym before.count);
       batch = refl;
     }
+
+pub done_all : {V : Type 0} (faults : V → ℕ) (p : Sizes) (ds : ℕ → Draw) (pre : List ℕ) (a : ℕ) (f : Parts V) (failures : List Verdict) → IsBetween faults p ds pre a f failures
+    → AllAreDone p ds (lists_ended p f) outcome.Overflow
+done_all faults p ds pre a f failures before k few = before.done k (let is = before.count in omega (arith, few, is))
 
 -- no attempt was begun before the first one
 pub none_before : {V : Type 0} (faults : V → ℕ) (p : Sizes) (ds : ℕ → Draw) (f : Parts V) → Stands faults p ds (begun_as f 0) → f.plan ≡ p → begun p.workers f.history ≡ 0

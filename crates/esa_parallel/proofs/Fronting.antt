@@ -2,7 +2,9 @@
 use Rattle.std.proofs.Common.{◌≡◌, ℕ, zero, suc, ◌+◌, ◌-◌, ◌<◌, ◌≤◌, List, [], ◌∷◌, ◌++◌, length, map, drop, All, Option, Some, None, refl, sym, ap, ◌∙◌, subst, arith, append-nil, length-append}
 use mathlib.Core.List.{IsPrefix}
 use Rattle.std.proofs.lemmas.List.{drop_all}
+use Rattle.std.proofs.lemmas.List.Elements.{All-nil}
 use Rattle.esa_device.specs.Logs.{Carried}
+use Rattle.esa_envelope.specs.declared.keys.Keys.{Keys}
 use Rattle.esa_laws.proofs.HistoryLaws.{begun-owner, lists-first}
 use Rattle.esa_params.specs.Sizes.{ArePlanned, Sizes, below}
 use Rattle.esa_spec.specs.Draws.{Draw}
@@ -13,18 +15,23 @@ use Rattle.esa_spec.specs.declared.event.Verdict.{Verdict}
 use Rattle.esa_ending.specs.Seen.{history_of, verdict_in}
 use Rattle.esa_floor.specs.Marks.{mark_of, roots_of}
 use Rattle.esa_floor.specs.Parts.{Parts, ended_as}
-use Rattle.esa_floor.specs.Standing.{EndsAs, IsAt, Stands, lists_before}
+use Rattle.esa_floor.specs.Standing.{EndsAs, IsAt, IsNew, Stands, lists_before}
 use Rattle.esa_floor.specs.Trails.{IsKept, entry_text, trail_of}
+use Rattle.esa_floor.specs.Written.{IsOfInput, NoWriteFailed, WritesFailed}
 use Rattle.esa_floor.specs.declared.floor.Roots.{Roots}
 use Rattle.esa_floor.specs.declared.turn.Outcome.{Outcome}
 use Rattle.esa_floor.specs.declared.turn.Outcome.TheVariants as outcome
+use Rattle.esa_floor.specs.declared.turn.Stop.{Stop}
+use Rattle.esa_floor.proofs.Failing.{Moved}
+use Rattle.esa_floor.proofs.Writing.{took-input}
 use Rattle.esa_shuffle.specs.Loading.{IsOfLoad, IsUnbegun}
+use Rattle.esa_shuffle.specs.Records.{IsShuffledFrom}
 use Rattle.esa_shuffle.specs.Runs.{AreStored, IsCounted, MayEnd, failed_of, lists_ended}
 use Rattle.esa_turnstile.specs.Passes.{found_trail_of}
 use Rattle.esa_turnstile.specs.declared.pass.Pass.{Pass}
 use Rattle.esa_turnstile.specs.declared.turnstile.Turnstile.{Turnstile}
 use Rattle.esa_workers.specs.Distributions.{HasFloor}
-use Rattle.esa_parallel.specs.Crews.{AllTookPart}
+use Rattle.esa_parallel.specs.Crews.{AllAreDone, AllTookPart, uncut_of}
 use Rattle.esa_parallel.specs.Fronts.{behind}
 use Rattle.esa_parallel.proofs.Between.{cut_same}
 
@@ -33,22 +40,42 @@ module _ {V : Type 0} (faults : V → ℕ) (p : Sizes) (ds : ℕ → Draw) (f : 
   none_here : begun f.plan.workers f.history ≡ 0
   none_here = ap (λ (q : Sizes). begun q.workers f.history) stands.of.plan ∙ none
 
-  new_by : (o : Option Outcome) (at : Option ℕ) → f.outcome ≡ o → IsAt faults ds f o at → (f.outcome ≡ None) × (f.recorder.trace ≡ []) × (faults f.recorder.device ≡ f.faults)
-  new_by (Some o) at is state = let some = state.1 in let zero_begun = none_here in absurd (omega (arith, some, zero_begun))
-  new_by None (Some a) is state = let some = state.some_begun in let zero_begun = none_here in absurd (omega (arith, some, zero_begun))
-  new_by None None is state = (is, state.trace, state.calm)
+  new_by : (o : Option Outcome) (at : Option ℕ) → f.outcome ≡ o → f.attempt ≡ at → IsAt faults ds f o at → (f.outcome ≡ None) × (f.attempt ≡ None) × IsNew faults f
+  new_by (Some o) at is idle state = let some = state.1 in let zero_begun = none_here in absurd (omega (arith, some, zero_begun))
+  new_by None (Some a) is idle state = let some = state.some_begun in let zero_begun = none_here in absurd (omega (arith, some, zero_begun))
+  new_by None None is idle state = (is, idle, state)
+
+  new : (f.outcome ≡ None) × (f.attempt ≡ None) × IsNew faults f
+  new = new_by f.outcome f.attempt refl refl stands.state
 
   pub unbegun : ArePlanned p → length f.history < f.room → IsUnbegun faults p ds f
-  unbegun planned room =
-      let new = new_by f.outcome f.attempt refl stands.state in
-      record { stands = stands; planned = planned; none_begun = none_here; room = room; outcome = new.0; trace = new.1; calm = new.2 }
+  unbegun planned room = record {
+    stands = stands;
+    planned = planned;
+    none_begun = none_here;
+    room = room;
+    outcome = new.0;
+    trace = new.2.trace;
+    calm = new.2.calm;
+  }
 
   pub no_log : map (λ (entry : Carried). entry.access) f.recorder.log ≡ f.recorder.trace → f.recorder.log ≡ []
-  no_log logged = empty f.recorder.log (logged ∙ (new_by f.outcome f.attempt refl stands.state).1)
+  no_log logged = empty f.recorder.log (logged ∙ new.2.trace)
     where
       empty : (log : List Carried) → map (λ (entry : Carried). entry.access) log ≡ [] → log ≡ []
       empty [] is = refl
       empty (entry ∷ log) is = absurd (let long = ap length is in omega (arith, long))
+
+  -- it keeps all that a turnstile's floor keeps
+  pub kept_unbegun : map (λ (entry : Carried). entry.access) f.recorder.log ≡ f.recorder.trace → IsKept faults p ds f
+  kept_unbegun logged = record {
+    stands = stands;
+    logged = logged;
+    queues = λ record_of input some. absurd (some new.1);
+    slots = λ record_of input some. absurd (some new.1);
+    took = λ record_of items. took-input ds record_of f (subst (All (IsOfInput f.plan)) (sym (no_log logged)) (All-nil (IsOfInput f.plan)));
+    writes = subst (λ (s : Option Stop). WritesFailed s f.recorder.log) (sym new.2.runs) (subst NoWriteFailed (sym (no_log logged)) (All-nil Moved));
+  }
 
 -- what begins nothing begins everything
 front_of_none : {X : Type 0} (xs ys : List X) → IsPrefix xs [] → IsPrefix xs ys
@@ -133,6 +160,29 @@ module _ {V : Type 0} (faults : V → ℕ) (p : Sizes) (ds : ℕ → Draw) (f : 
       let gone : drop (length f.history) f.history ≡ [] = drop_all (length f.history) f.history (omega arith) in
       subst (λ (h : List ℕ). AllTookPart p (lists_ended p (record f { history = h }))) (sym gone)
       (λ a inside. let long = ap length empty in absurd (omega (arith, inside, long)))
+
+  none_uncut : (x : Outcome) (hs : List (List ℕ)) → IsOfLoad x → length hs ≡ 0 → uncut_of x (length hs) ≡ 0
+  none_uncut (outcome.DeviceFault number) hs load none_there = omega (arith, none_there)
+  none_uncut outcome.BatchFailed hs load none_there = none_there
+  none_uncut (outcome.Shuffled a) hs never none_there = absurd never
+  none_uncut outcome.Overflow hs never none_there = absurd never
+  none_uncut (outcome.Tampered number) hs never none_there = absurd never
+
+  pub none_done : IsOfLoad o → AllAreDone p ds (lists_ended p (behind (length f.history) f)) o
+  none_done load =
+      let gone : drop (length f.history) f.history ≡ [] = drop_all (length f.history) f.history (omega arith) in
+      subst (λ (h : List ℕ). AllAreDone p ds (lists_ended p (record f { history = h })) o) (sym gone)
+      (λ a inside. let zero_there = none_uncut o (lists_ended p alone) load (ap length empty) in absurd (omega (arith, inside, zero_there)))
+
+-- what became of records is the same by another name of the keys, the entries and the log
+pub shuffled_same : (p : Sizes) (ds : ℕ → Draw) (o : Outcome) (given : List ℕ) (outer outer_now run run_now : Keys) (h h_now : List ℕ) (log log_now : List Carried)
+    → outer ≡ outer_now → run ≡ run_now → h ≡ h_now → log ≡ log_now
+    → IsShuffledFrom p ds (lists p.workers h) outer run h log o given → IsShuffledFrom p ds (lists p.workers h_now) outer_now run_now h_now log_now o given
+shuffled_same p ds o given outer outer_now run run_now h h_now log log_now outer_is run_is h_is log_is is =
+    subst (λ (l : List Carried). IsShuffledFrom p ds (lists p.workers h_now) outer_now run_now h_now l o given) log_is
+    (subst (λ (xs : List ℕ). IsShuffledFrom p ds (lists p.workers xs) outer_now run_now xs log o given) h_is
+    (subst (λ (k : Keys). IsShuffledFrom p ds (lists p.workers h) outer_now k h log o given) run_is
+    (subst (λ (k : Keys). IsShuffledFrom p ds (lists p.workers h) k run h log o given) outer_is is)))
 
 -- a longer list without a front of it
 pub drop_on : {X : Type 0} (n : ℕ) (xs ys : List X) → n ≤ length xs → drop n (xs ++ ys) ≡ drop n xs ++ ys

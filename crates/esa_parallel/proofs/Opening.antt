@@ -1,27 +1,13 @@
--- A floor on which nothing was done, as a turnstile gets it, and what is said of a run on it.
-use Rattle.std.proofs.Common.{◌≡◌, ℕ, List, map, None, subst}
-use Rattle.esa_device.specs.Logs.{Carried}
+-- What is said of a run on the floor that a turnstile was opened on.
+use Rattle.std.proofs.Common.{◌≡◌, ℕ, List, subst}
 use Rattle.esa_device.specs.Recording.{Recorded}
 use Rattle.esa_envelope.specs.declared.keys.Keys.{Keys}
 use Rattle.esa_params.specs.Sizes.{Sizes}
 use Rattle.esa_spec.specs.Draws.{Draw}
 use Rattle.esa_spec.specs.Histories.{lists}
 use Rattle.esa_spec.specs.declared.event.Verdict.{Verdict}
-use Rattle.esa_floor.specs.Parts.{Parts}
-use Rattle.esa_floor.specs.Standing.{Stands}
-use Rattle.esa_floor.specs.Trails.{IsKept}
 use Rattle.esa_floor.specs.declared.turn.Outcome.{Outcome}
 use Rattle.esa_shuffle.specs.Runs.{EndsRun, opens_last, seen_of}
-
--- where no attempt is at work, nothing has to be held
-pub kept_idle : {V : Type 0} (faults : V → ℕ) (p : Sizes) (ds : ℕ → Draw) (f : Parts V) → Stands faults p ds f → f.attempt ≡ None
-    → map (λ (entry : Carried). entry.access) f.recorder.log ≡ f.recorder.trace → IsKept faults p ds f
-kept_idle faults p ds f stands idle logged = record {
-  stands = stands;
-  logged = logged;
-  queues = λ record_of input some. absurd (some idle);
-  slots = λ record_of input some. absurd (some idle);
-}
 
 -- how a run ended is said of a plan, a key and a count of faults that are the floor's
 pub ends_same : {V : Type 0} (faults : V → ℕ) (ds : ℕ → Draw) (p plan : Sizes) (run key : Keys) (count number before now : ℕ) (recorder : Recorded V) (history : List ℕ) (failures : List Verdict) (o : Outcome)

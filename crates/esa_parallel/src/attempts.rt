@@ -1,16 +1,24 @@
 //! The attempts of a run by a crew, one after another.
 
 ghost use Rattle.std.specs.Prelude.{◌≡◌, ◌+◌, ◌*◌, ◌<◌, ◌≤◌, ℕ, [], length, slice_index_or};
+ghost use Rattle.esa_device.specs.Logs.{IsFaithful};
+ghost use Rattle.esa_ending.specs.Seen.{turns_in};
+ghost use Rattle.esa_floor.specs.Keeping.{HasInput};
 ghost use Rattle.esa_floor.specs.Marks.{roots_of};
 ghost use Rattle.esa_floor.specs.Parts.{begun_as};
 ghost use Rattle.esa_floor.specs.Standing.{Stands};
+ghost use Rattle.esa_floor.specs.Written.{AreItems, EachTookItsBlock, NoWriteFailed};
 ghost use Rattle.esa_params.specs.Sizes.{ArePlanned};
+ghost use Rattle.esa_params.specs.Slots.{item_length};
+ghost use Rattle.esa_press.specs.Contents.{AreOutputsStored};
+ghost use Rattle.esa_report.specs.declared.item.Item.{Item};
+ghost use Rattle.esa_shuffle.specs.Records.{WritesOf};
 ghost use Rattle.esa_shuffle.specs.Runs.{MayEnd, lists_ended};
 ghost use Rattle.esa_spec.specs.Draws.{drawn};
 ghost use Rattle.esa_spec.specs.Fronts.{Begins};
 ghost use Rattle.esa_turnstile.specs.Passes.{added_of, left_of, opened_of, passes_of, tickets_of};
 ghost use Rattle.esa_workers.specs.Distributions.{HasFloor, Rests};
-ghost use Rattle.esa_parallel.specs.Crews.{AllTookPart};
+ghost use Rattle.esa_parallel.specs.Crews.{AllAreDone, AllTookPart};
 
 use crate::attempt::{Attempted, make_attempt};
 use esa_device::Device;
@@ -51,6 +59,8 @@ pub(crate) fn make_attempts<
 ) -> Over<V, G>
     requires next { Stands V.faults G.plan G.draws (begun_as held.value 0) }
     requires planned { ArePlanned G.plan }
+    requires took { (record_of : ℕ → Item) → AreItems (item_length G.plan.form) record_of → EachTookItsBlock G.draws record_of held.value }
+    requires writes { NoWriteFailed held.value.recorder.log }
     requires floor { HasFloor G.plan turnstile.now owner.old held.value }
     requires tickets { G.plan.attempts + 1 ≤ left_of owner.old }
     requires passes { passes_of turnstile.now ≡ G.plan.workers + 1 }
@@ -65,9 +75,22 @@ pub(crate) fn make_attempts<
     requires draws { (a : ℕ) → G.draws a ≡ drawn (C.target_list coins.now) (C.order_list coins.now) a }
     ensures ends { (count : ℕ) → MayEnd V.faults G.plan G.draws (lists_ended G.plan result.held.value) count count result.held.value failures.new result.outcome }
     ensures took_part { AllTookPart G.plan (lists_ended G.plan result.held.value) }
+    ensures done { AllAreDone G.plan G.draws (lists_ended G.plan result.held.value) result.outcome }
+
     // Nobody had come before the first attempt.
     ensures alone { held.value.history ≡ [] }
     ensures log { Begins held.value.recorder.log result.held.value.recorder.log }
+
+    // Where the input has these records and the log is faithful, the output of the attempt that succeeded has those of its
+    // places.
+    ensures outputs { (record_of : ℕ → Item) (a : ℕ) → AreItems (item_length G.plan.form) record_of → IsFaithful G.plan result.held.value.recorder.log
+        → HasInput held.value record_of → result.outcome ≡ Outcome.Shuffled a
+        → AreOutputsStored G.plan held.value.run (G.draws a) (turns_in (lists_ended G.plan result.held.value) a) a record_of G.plan.b result.held.value.recorder.log }
+    ensures input { (record_of : ℕ → Item) → IsFaithful G.plan result.held.value.recorder.log → HasInput held.value record_of → HasInput result.held.value record_of }
+
+    // However the attempts ended, each write took its block, and none failed but the last.
+    ensures took { (record_of : ℕ → Item) → AreItems (item_length G.plan.form) record_of → EachTookItsBlock G.draws record_of result.held.value }
+    ensures writes { WritesOf result.outcome result.held.value.recorder.log }
     ensures origin { roots_of result.held.value ≡ roots_of held.value }
 {
     for attempt in 0..held.value.plan().attempts() {

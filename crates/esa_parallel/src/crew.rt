@@ -1,17 +1,18 @@
 //! A run of the shuffle by a crew: its memory is taken, and it runs.
 
-ghost use Rattle.std.specs.Prelude.{◌≡◌, ◌+◌, ◌*◌, ◌<◌, ◌≤◌, ℕ, [], All, Some, IfErr, IfOk, length, slice_index_or};
+ghost use Rattle.std.specs.Prelude.{◌≡◌, ◌≢◌, ◌∷◌, ◌+◌, ◌*◌, ◌<◌, ◌≤◌, ℕ, [], All, Some, IfErr, IfOk, length, slice_index_or};
 ghost use Rattle.esa_floor.specs.Marks.{mark_of};
 ghost use Rattle.esa_params.specs.Form.{envelope_length};
 ghost use Rattle.esa_params.specs.Sizes.{ArePlanned};
 ghost use Rattle.esa_params.specs.Slots.{greatest_trace};
-ghost use Rattle.esa_shuffle.specs.Loading.{IsNewFloor};
+ghost use Rattle.esa_shuffle.specs.Loading.{HasGiven, IsNewFloor};
+ghost use Rattle.esa_shuffle.specs.Records.{IsShuffledFrom};
 ghost use Rattle.esa_shuffle.specs.Runs.{AreFresh, EndsRun, opens_last, seen_of};
 ghost use Rattle.esa_spec.specs.Draws.{drawn};
 ghost use Rattle.esa_spec.specs.Histories.{lists};
 ghost use Rattle.esa_turnstile.specs.Passes.{IsNewPass, IsPassOf, number_of, opened_of, passes_of, tickets_of};
 ghost use Rattle.esa_workers.specs.Works.{most_turns};
-ghost use Rattle.esa_parallel.specs.Crews.{AllTookPart};
+ghost use Rattle.esa_parallel.specs.Crews.{AllAreDone, AllTookPart};
 
 use crate::parallel::run_opened;
 use crate::tools::Tools;
@@ -117,6 +118,9 @@ fn run_told<
         (seen_of V.faults (V.faults recorder.device) (B.faults batch.old) ran.recorder ran.history (B.faults batch.new))
         (opens_last plan run ran.recorder.last) ran.failures ran.outcome) }
     ensures took_part { IfOk result (λ ran. AllTookPart plan (lists plan.workers ran.history)) }
+    ensures done { IfOk result (λ ran. AllAreDone plan G.draws (lists plan.workers ran.history) ran.outcome) }
+    ensures given { IfOk result (λ ran. HasGiven plan (B.told batch.old) (B.part (B.grounds batch.old)) (B.heard batch.old) (B.heard batch.new) (ran.history ≢ plan.workers ∷ [])
+        (IsShuffledFrom plan G.draws (lists plan.workers ran.history) outer run ran.history ran.recorder.log ran.outcome)) }
     ensures fresh { IfOk result (λ ran. AreFresh plan ran.recorder.trace) }
     ensures ready { IfOk result (λ ran. ran.recorder.plan ≡ Some plan) }
     ensures room { IfOk result (λ ran. greatest_trace plan ≤ length ran.recorder.trace + ran.recorder.room) }
@@ -166,8 +170,17 @@ pub fn run_crew<V: Device + Send + Drop, C: Coins + Sync, B: Records, R: Threads
         (seen_of V.faults (V.faults recorder.device) (B.faults batch.old) ran.recorder ran.history (B.faults batch.new))
         (opens_last plan run ran.recorder.last) ran.failures ran.outcome) }
 
-    // Each attempt has turns of every worker, and of nobody else.
+    // Each attempt has turns of every worker, and of nobody else. Where no exchange failed, each worker had one that found no
+    // bucket left, but in an attempt that a failed access cut.
     ensures took_part { IfOk result (λ ran. AllTookPart plan (lists plan.workers ran.history)) }
+    ensures done { IfOk result (λ ran. AllAreDone plan (drawn (C.target_list coins.now) (C.order_list coins.now)) (lists plan.workers ran.history) ran.outcome) }
+
+    // What the load has read are the records of the batch: of all its buckets, where an attempt was begun. Where the log of the
+    // run is faithful, these are the records that the attempt which succeeded put out, each at its place, and however the run
+    // ended they are what each block that was written has.
+    ensures given { IfOk result (λ ran. let ds = drawn (C.target_list coins.now) (C.order_list coins.now) in
+        HasGiven plan (B.told batch.old) (B.part (B.grounds batch.old)) (B.heard batch.old) (B.heard batch.new) (ran.history ≢ plan.workers ∷ [])
+        (IsShuffledFrom plan ds (lists plan.workers ran.history) outer run ran.history ran.recorder.log ran.outcome)) }
 
     // No write repeats a nonce.
     ensures fresh { IfOk result (λ ran. AreFresh plan ran.recorder.trace) }

@@ -1,19 +1,20 @@
 //! A whole run by a crew: its memory is taken, and it runs.
 
-ghost use Rattle.std.specs.Prelude.{◌≡◌, ◌+◌, ◌*◌, ◌<◌, ◌≤◌, ◌^◌, ℕ, [], All, Some, IfErr, IfOk, length, slice_index_or, vec_capacity};
+ghost use Rattle.std.specs.Prelude.{◌≡◌, ◌≢◌, ◌∷◌, ◌+◌, ◌*◌, ◌<◌, ◌≤◌, ◌^◌, ℕ, [], All, Some, IfErr, IfOk, length, slice_index_or, vec_capacity};
 ghost use Rattle.esa_crew.specs.Posts.{IsNewWorker};
 ghost use Rattle.esa_floor.specs.Marks.{mark_of};
 ghost use Rattle.esa_floor.specs.Working.{Working};
 ghost use Rattle.esa_params.specs.Form.{envelope_length};
 ghost use Rattle.esa_params.specs.Sizes.{ArePlanned};
 ghost use Rattle.esa_params.specs.Slots.{greatest_trace};
-ghost use Rattle.esa_shuffle.specs.Loading.{IsNewFloor};
-ghost use Rattle.esa_shuffle.specs.Runs.{EndsRun, opens_last, seen_of};
+ghost use Rattle.esa_shuffle.specs.Loading.{HasGiven, IsNewFloor};
+ghost use Rattle.esa_shuffle.specs.Records.{IsShuffledFrom};
+ghost use Rattle.esa_shuffle.specs.Runs.{AreFresh, EndsRun, opens_last, seen_of};
 ghost use Rattle.esa_spec.specs.Draws.{drawn};
 ghost use Rattle.esa_spec.specs.Histories.{lists};
 ghost use Rattle.esa_turnstile.specs.Passes.{IsNewPass, IsPassOf, number_of, opened_of, passes_of, tickets_of};
 ghost use Rattle.esa_workers.specs.Works.{most_turns};
-ghost use Rattle.esa_parallel.specs.Crews.{AllTookPart};
+ghost use Rattle.esa_parallel.specs.Crews.{AllAreDone, AllTookPart};
 
 use crate::runs::run_on;
 use crate::tools::Tools;
@@ -69,6 +70,10 @@ pub(crate) fn run_opened<
         (seen_of V.faults (opened_of opened.turnstile).faults (B.faults batch.old) result.recorder result.history (B.faults batch.new))
         (opens_last G.plan (opened_of opened.turnstile).run result.recorder.last) result.failures result.outcome }
     ensures took_part { AllTookPart G.plan (lists G.plan.workers result.history) }
+    ensures done { AllAreDone G.plan G.draws (lists G.plan.workers result.history) result.outcome }
+    ensures given { HasGiven G.plan (B.told batch.old) (B.part (B.grounds batch.old)) (B.heard batch.old) (B.heard batch.new) (result.history ≢ G.plan.workers ∷ [])
+        (IsShuffledFrom G.plan G.draws (lists G.plan.workers result.history) (opened_of opened.turnstile).outer (opened_of opened.turnstile).run result.history result.recorder.log result.outcome) }
+    ensures fresh { AreFresh G.plan result.recorder.trace }
     ensures ready { result.recorder.plan ≡ Some G.plan }
     ensures room { greatest_trace G.plan ≤ length result.recorder.trace + result.recorder.room }
     ensures told { B.told batch.new ≡ B.told batch.old }

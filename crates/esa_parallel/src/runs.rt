@@ -1,6 +1,6 @@
 //! A run by a crew: the load, the attempts, and its end.
 
-ghost use Rattle.std.specs.Prelude.{◌≡◌, ◌≢◌, ◌∷◌, ◌+◌, ◌*◌, ◌<◌, ◌≤◌, ℕ, [], Some, length, slice_index_or};
+ghost use Rattle.std.specs.Prelude.{◌≡◌, ◌≢◌, ◌∷◌, ◌++◌, ◌+◌, ◌*◌, ◌<◌, ◌≤◌, ℕ, [], Some, length, slice_index_or};
 ghost use mathlib.Core.List.{IsPrefix};
 ghost use Rattle.esa_floor.specs.Marks.{roots_of};
 ghost use Rattle.esa_floor.specs.Parts.{ended_as};
@@ -9,12 +9,13 @@ ghost use Rattle.esa_params.specs.Form.{envelope_length};
 ghost use Rattle.esa_params.specs.Sizes.{ArePlanned};
 ghost use Rattle.esa_params.specs.Slots.{greatest_trace};
 ghost use Rattle.esa_shuffle.specs.Loading.{HasGiven, IsNewFloor, IsUnbegun};
-ghost use Rattle.esa_shuffle.specs.Runs.{EndsRun, MayEnd, lists_ended, opens_last, seen_of};
+ghost use Rattle.esa_shuffle.specs.Records.{IsShuffledFrom};
+ghost use Rattle.esa_shuffle.specs.Runs.{AreFresh, EndsRun, MayEnd, lists_ended, opens_last, seen_of};
 ghost use Rattle.esa_spec.specs.Draws.{drawn};
 ghost use Rattle.esa_spec.specs.Histories.{lists};
 ghost use Rattle.esa_turnstile.specs.Passes.{IsNewPass, IsPassOf, added_of, left_of, number_of, opened_of, passes_of, tickets_of};
 ghost use Rattle.esa_workers.specs.Distributions.{HasFloor, Rests};
-ghost use Rattle.esa_parallel.specs.Crews.{AllTookPart};
+ghost use Rattle.esa_parallel.specs.Crews.{AllAreDone, AllTookPart};
 ghost use Rattle.esa_parallel.specs.Fronts.{behind};
 
 use crate::attempts::{Over, make_attempts};
@@ -74,6 +75,10 @@ fn load_and_run<
         MayEnd V.faults G.plan G.draws (lists_ended G.plan floor) (B.faults batch.old) (B.faults batch.new) floor failures.new result.outcome }
     ensures stands { Stands V.faults G.plan G.draws (ended_as result.held.value result.outcome) }
     ensures took_part { AllTookPart G.plan (lists_ended G.plan (behind (length held.value.history) result.held.value)) }
+    ensures done { AllAreDone G.plan G.draws (lists_ended G.plan (behind (length held.value.history) result.held.value)) result.outcome }
+    ensures given { let floor = behind (length held.value.history) result.held.value in
+        HasGiven G.plan (B.told batch.old) (B.part (B.grounds batch.old)) (B.heard batch.old) (B.heard batch.new) (floor.history ≢ [])
+        (IsShuffledFrom G.plan G.draws (lists_ended G.plan floor) held.value.outer held.value.run (floor.history ++ G.plan.workers ∷ []) floor.recorder.log result.outcome) }
     ensures longer { IsPrefix held.value.history result.held.value.history }
     ensures origin { roots_of result.held.value ≡ roots_of held.value }
     ensures told { B.told batch.new ≡ B.told batch.old }
@@ -133,6 +138,10 @@ pub(crate) fn run_on<
         (seen_of V.faults (opened_of turnstile.now).faults (B.faults batch.old) result.recorder result.history (B.faults batch.new))
         (opens_last G.plan (opened_of turnstile.now).run result.recorder.last) result.failures result.outcome }
     ensures took_part { AllTookPart G.plan (lists G.plan.workers result.history) }
+    ensures done { AllAreDone G.plan G.draws (lists G.plan.workers result.history) result.outcome }
+    ensures given { HasGiven G.plan (B.told batch.old) (B.part (B.grounds batch.old)) (B.heard batch.old) (B.heard batch.new) (result.history ≢ G.plan.workers ∷ [])
+        (IsShuffledFrom G.plan G.draws (lists G.plan.workers result.history) (opened_of turnstile.now).outer (opened_of turnstile.now).run result.history result.recorder.log result.outcome) }
+    ensures fresh { AreFresh G.plan result.recorder.trace }
     ensures ready { result.recorder.plan ≡ Some G.plan }
     ensures room { greatest_trace G.plan ≤ length result.recorder.trace + result.recorder.room }
     ensures told { B.told batch.new ≡ B.told batch.old }

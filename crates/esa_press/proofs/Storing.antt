@@ -43,8 +43,9 @@ use Rattle.esa_vault.proofs.BlockLaws.{opens-sealed}
 use Rattle.esa_vault.proofs.TextLaws.{place-inside, text-fills}
 use Rattle.esa_floor.specs.Keeping.{AreChunksStored, HasInput, chunk_block}
 use Rattle.esa_floor.specs.Parts.{Parts, count_at}
+use Rattle.esa_floor.specs.Written.{AreItems}
 use Rattle.esa_floor.proofs.Writing.{took-read}
-use Rattle.esa_press.specs.Contents.{AreItems, ArePut, AreQueued, AreTailsStored, EachOpens, GoesOnPressing, GoesOnWriting, HoldsDistribution, IsOfPress, WroteItsBlock, has_stored, output_of, tail_of}
+use Rattle.esa_press.specs.Contents.{ArePut, AreQueued, AreTailsStored, EachOpens, GoesOnPressing, GoesOnWriting, HoldsDistribution, IsOfPress, WroteItsBlock, has_stored, output_of, tail_of}
 use Rattle.esa_press.specs.Drained.{AreDrained, DrainEnd, failed_tail, stored_tail, tail_block}
 use Rattle.esa_press.specs.Fetched.{AreStored, GoesOnReading, IsFetched, IsStored, part_slot}
 use Rattle.esa_press.specs.Pressed.{ImportAnswer, Pressed, PutAnswer, output_block}

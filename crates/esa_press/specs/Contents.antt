@@ -3,7 +3,7 @@ use Rattle.std.specs.Prelude.{◌≡◌, ℕ, ◌+◌, ◌<◌, ◌++◌, ◌&&�
 use Rattle.esa_device.specs.Logs.{Carried, IsFaithful, Took}
 use Rattle.esa_envelope.specs.declared.keys.Keys.{Keys}
 use Rattle.esa_floor.specs.Keeping.{AreChunksStored}
-use Rattle.esa_floor.specs.Written.{NoWriteFailed, OnlyLastFailed, TookItsBlock, output_seal, tail_seal}
+use Rattle.esa_floor.specs.Written.{AreItems, NoWriteFailed, OnlyLastFailed, TookItsBlock, output_seal, tail_seal}
 use Rattle.esa_params.specs.Sizes.{ArePlanned, Sizes}
 use Rattle.esa_params.specs.Slots.{at, is_writing, item_length, number_of}
 use Rattle.esa_params.specs.declared.slot.Op.TheVariants.{Write as Writes}
@@ -14,15 +14,9 @@ use Rattle.esa_spec.specs.Lines.{queued}
 use Rattle.esa_spec.specs.Places.{window}
 use Rattle.esa_spec.specs.Turns.{order}
 use Rattle.esa_stash.specs.Stash.{Held, queue_at}
-use Rattle.esa_vault.specs.Placed.{IsHeld, IsSpelled}
 use Rattle.esa_vault.specs.declared.fault.VaultFault.TheVariants.{Device, Tampered}
 use Rattle.esa_press.specs.declared.halt.Halt.{Halt}
 use Rattle.esa_press.specs.declared.halt.Halt.TheVariants.{Verdict, Fault}
-
--- the item of each place is no dummy, and so many bytes spell it
-pub record AreItems (size : ℕ) (record_of : ℕ → Item) : Type 0 where
-  pub held : (x : ℕ) → IsHeld (record_of x)
-  pub spelled : (x : ℕ) → IsSpelled size (record_of x)
 
 -- these orders are those of a draw
 abbrev pub AreOrders : Sizes → Draw → (ℕ → List ℕ) → Type 0

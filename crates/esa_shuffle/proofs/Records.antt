@@ -10,7 +10,7 @@ use Rattle.esa_params.specs.Form.{envelope_length}
 use Rattle.esa_params.specs.Sizes.{Sizes, first}
 use Rattle.esa_params.specs.Slots.{item_length}
 use Rattle.esa_params.specs.declared.form.Form.{Form}
-use Rattle.esa_press.specs.Contents.{AreItems, AreOutputsStored}
+use Rattle.esa_press.specs.Contents.{AreOutputsStored}
 use Rattle.esa_report.specs.declared.item.Item.{Item}
 use Rattle.esa_spec.specs.Draws.{Draw}
 use Rattle.esa_spec.specs.Fronts.{Begins}
@@ -24,7 +24,7 @@ use Rattle.esa_floor.specs.Keeping.{HasInput}
 use Rattle.esa_floor.specs.Marks.{roots_of}
 use Rattle.esa_floor.specs.Parts.{Parts}
 use Rattle.esa_floor.specs.Private.{envelope_at}
-use Rattle.esa_floor.specs.Written.{EachTookItsBlock, IsOfInput}
+use Rattle.esa_floor.specs.Written.{AreItems, EachTookItsBlock, IsOfInput}
 use Rattle.esa_floor.specs.declared.floor.Roots.{Roots}
 use Rattle.esa_floor.specs.declared.turn.Outcome.{Outcome}
 use Rattle.esa_floor.specs.declared.turn.Outcome.TheVariants as outcome

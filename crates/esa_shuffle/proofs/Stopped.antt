@@ -2,8 +2,9 @@
 use Rattle.std.proofs.Common.{◌≡◌, ◌≢◌, ℕ, ◌+◌, ◌<◌, Bool, true, false, cond, List, [], ◌∷◌, ◌++◌, length, take, drop, get_or, Option, Some, None, Ok, Err, refl, sym, ap, ◌∙◌, subst, arith, take-append-drop, length-append}
 use Rattle.std.proofs.lemmas.List.{length-take-le, take_more}
 use Rattle.esa_laws.proofs.AfterLaws.{keeps}
+use Rattle.esa_laws.proofs.FailLaws.{failing-on}
 use Rattle.esa_laws.proofs.TurnLaws.{event_at-append}
-use Rattle.esa_laws.proofs.VerdictLaws.{finished-now, verdict-now}
+use Rattle.esa_laws.proofs.VerdictLaws.{failing-by, finished-now, verdict-now}
 use Rattle.esa_params.specs.Sizes.{Sizes}
 use Rattle.esa_spec.specs.Draws.{Draw}
 use Rattle.esa_spec.specs.Lines.{overflows}
@@ -29,21 +30,47 @@ use Rattle.esa_floor.proofs.Resting.{working}
 use Rattle.esa_press.proofs.Finishing.{drain_cut, drain_fails, press_bad, press_cut, press_good}
 use Rattle.esa_shuffle.specs.Attempts.{AttemptEnd, end_of}
 
--- an exchange that overflows decides the verdict
-verdict_by : (p : Sizes) (d : Draw) (h : List ℕ) (done j : ℕ) → done < length h → event_at p.b h done ≡ Exchange j
-    → failing p d (order p.b (take done h)) ≡ None
-    → overflows p d (order p.b (take done h) ++ j ∷ []) (length (order p.b (take done h))) ≡ true → verdict p d h ≡ verdicts.StashOverflow j
-verdict_by p d h done j inside event runs over =
-    let g = take done h in
-    let w = get_or h done 0 in
-    let rest = drop (done + 1) h in
-    let long : length g ≡ done = length-take-le done h (omega arith) in
-    let whole : h ≡ (g ++ w ∷ []) ++ rest = sym (take-append-drop (done + 1) h) ∙ ap (λ (xs : List ℕ). xs ++ rest) (take_more h done 0 inside) in
-    let now : next p.b g w ≡ Exchange j =
-    sym (event_at-append p.b (g ++ w ∷ []) rest (length g) (let more = length-append g (w ∷ []) in omega (arith, more)))
-    ∙ ap (λ (xs : List ℕ). event_at p.b xs (length g)) (sym whole) ∙ ap (event_at p.b h) long ∙ event in
-    ap (verdict p d) whole ∙ (keeps p d 0 (g ++ w ∷ []) rest (finished-now p d g w j runs (ap exchanged now) over)).verdict_same
-    ∙ verdict-now p d g w j runs (ap exchanged now) over
+-- an exchange that overflows
+module _ (p : Sizes) (d : Draw) (h : List ℕ) (done j : ℕ) (inside : done < length h) (event : event_at p.b h done ≡ Exchange j) (runs : failing p d (order p.b (take done h)) ≡ None)
+    (over : overflows p d (order p.b (take done h) ++ j ∷ []) (length (order p.b (take done h))) ≡ true)
+  where
+    abbrev g : List ℕ
+    g = take done h
+
+    abbrev w : ℕ
+    w = get_or h done 0
+
+    abbrev rest : List ℕ
+    rest = drop (done + 1) h
+
+    whole : h ≡ (g ++ w ∷ []) ++ rest
+    whole = sym (take-append-drop (done + 1) h) ∙ ap (λ (xs : List ℕ). xs ++ rest) (take_more h done 0 inside)
+
+    now : next p.b g w ≡ Exchange j
+    now =
+        let long : length g ≡ done = length-take-le done h (omega arith) in
+        sym (event_at-append p.b (g ++ w ∷ []) rest (length g) (let more = length-append g (w ∷ []) in omega (arith, more)))
+        ∙ ap (λ (xs : List ℕ). event_at p.b xs (length g)) (sym whole) ∙ ap (event_at p.b h) long ∙ event
+
+    -- it decides the verdict
+    verdict_by : verdict p d h ≡ verdicts.StashOverflow j
+    verdict_by =
+        ap (verdict p d) whole ∙ (keeps p d 0 (g ++ w ∷ []) rest (finished-now p d g w j runs (ap exchanged now) over)).verdict_same
+        ∙ verdict-now p d g w j runs (ap exchanged now) over
+
+    -- and it is the one that fails
+    fails_by : failing p d (order p.b h) ≡ Some (length (order p.b g))
+    fails_by =
+        ap (λ (xs : List ℕ). failing p d (order p.b xs)) whole
+        ∙ failing-on p d (g ++ w ∷ []) rest (length (order p.b g)) (failing-by p d g w j runs (ap exchanged now) true over)
+
+-- a verdict that is good
+pub good_is : (v : Verdict) → is_good v ≡ true → v ≡ verdicts.Good
+good_is verdicts.Good e = refl
+good_is (verdicts.StashOverflow j) e = absurd (cc)
+good_is (verdicts.StashLeft j) e = absurd (cc)
+good_is (verdicts.QueueOverflow j) e = absurd (cc)
+good_is (verdicts.QueueStarved j) e = absurd (cc)
 
 finished_is : (x y : Bool) → cond x (cond y false true) false ≡ true → x ≡ true
 finished_is true y e = refl
@@ -77,9 +104,21 @@ module _ {V : Type 0} (faults : V → ℕ) (p : Sizes) (ds : ℕ → Draw) (f : 
   at_work : IsAtWork faults ds f (attempt_begun f)
   at_work = (working faults ds f f.outcome f.attempt stands.state some).1
 
+  overflows_at : (j : ℕ) → f.stop ≡ Some (stop.StashOverflow j) → StopsAt faults (ds (attempt_begun f)) (attempt_begun f) f at_work.done (Some (stop.StashOverflow j))
+  overflows_at j stopped = subst (λ (s : Option Stop). StopsAt faults (ds (attempt_begun f)) (attempt_begun f) f at_work.done s) stopped at_work.stops
+
+  -- an exchange failed
+  pub overflow_fails : (j : ℕ) → f.stop ≡ Some (stop.StashOverflow j) → failing f.plan (ds a) (order f.plan.b (turns_made f)) ≢ None
+  overflow_fails j stopped none =
+      let why = overflows_at j stopped in
+      let some = fails_by f.plan (ds (attempt_begun f)) (turns_made f) at_work.done j why.0 why.1 at_work.spread.runs why.2 in
+      let runs = ap (λ (n : ℕ). failing f.plan (ds n) (order f.plan.b (turns_made f))) number_is ∙ none in
+      let clash = sym some ∙ runs in
+      absurd (cc clash)
+
   pub overflow_end : (j : ℕ) → f.stop ≡ Some (stop.StashOverflow j) → AttemptEnd faults p ds a f (Ok (verdicts.StashOverflow j))
   overflow_end j stopped =
-      let why = subst (λ (s : Option Stop). StopsAt faults (ds (attempt_begun f)) (attempt_begun f) f at_work.done s) stopped at_work.stops in
+      let why = overflows_at j stopped in
       subst (λ (n : ℕ). AttemptEnd faults p ds n f (Ok (verdicts.StashOverflow j))) number_is (
         is_over faults p ds f stands some room j stopped,
         finished_is (is_finished f.plan (ds (attempt_begun f)) (turns_made f)) (is_good (verdict f.plan (ds (attempt_begun f)) (turns_made f)))
@@ -105,13 +144,6 @@ module _ {V : Type 0} (faults : V → ℕ) (p : Sizes) (ds : ℕ → Draw) (f : 
       (same : new ≡ record x { recorder = new.recorder }) (plan : new.recorder.plan ≡ x.recorder.plan)
       (total : length new.recorder.trace + new.recorder.room ≡ length x.recorder.trace + x.recorder.room)
     where
-      good_is : (v : Verdict) → is_good v ≡ true → v ≡ verdicts.Good
-      good_is verdicts.Good e = refl
-      good_is (verdicts.StashOverflow j) e = absurd (cc)
-      good_is (verdicts.StashLeft j) e = absurd (cc)
-      good_is (verdicts.QueueOverflow j) e = absurd (cc)
-      good_is (verdicts.QueueStarved j) e = absurd (cc)
-
       pub press_done : (again : Unit {0}) → AreMade faults x.plan x.run (ds a) (order x.plan.b (turns_made x)) a (steps x.plan) x.recorder new.recorder (Ok again)
           → AttemptEnd faults p ds a new (Ok verdicts.Good)
       press_done again made =

@@ -24,8 +24,9 @@ use Rattle.esa_ending.specs.Seen.{turns_in}
 use Rattle.esa_floor.specs.Keeping.{AreChunksStored, HasInput, IsInput, QueuesHold, SlotsHold}
 use Rattle.esa_floor.specs.Parts.{Parts, ended_as}
 use Rattle.esa_floor.specs.Standing.{attempt_begun, turns_made}
-use Rattle.esa_floor.specs.Written.{EachTookItsBlock, IsOfInput, NoWriteFailed, OnlyLastFailed, TookItsBlock, attempt_turns}
+use Rattle.esa_floor.specs.Written.{AreItems, EachTookItsBlock, IsOfInput, NoWriteFailed, OnlyLastFailed, TookItsBlock, attempt_turns}
 use Rattle.esa_floor.specs.declared.turn.Outcome.{Outcome}
+use Rattle.esa_floor.specs.declared.turn.Outcome.TheVariants as outcome
 use Rattle.esa_floor.proofs.Failing.{Moved, last_may_fail}
 use Rattle.esa_floor.proofs.Lasting.{turns-made, turns-stored}
 use Rattle.esa_floor.proofs.Writing.{took-ended}
@@ -34,7 +35,7 @@ use Rattle.esa_press.proofs.Fetching.{Spares}
 use Rattle.esa_press.proofs.Finishing.{chunks_are, queues_are, turns_are, turns_behind}
 use Rattle.esa_press.proofs.Storing.{spared_before, the_same_but}
 use Rattle.esa_press.proofs.Taking.{input_front}
-use Rattle.esa_press.specs.Contents.{AreItems, AreOrders, AreQueued, AreTailsStored, EndsWriting, GoesOnPressing, HoldsDistribution, IsOfPress}
+use Rattle.esa_press.specs.Contents.{AreOrders, AreQueued, AreTailsStored, EndsWriting, GoesOnPressing, HoldsDistribution, IsOfPress}
 use Rattle.esa_press.specs.Drained.{DrainEnd, failed_tail, stored_tail, tail_block}
 use Rattle.esa_press.specs.Over.{IsDistributed}
 use Rattle.esa_press.specs.declared.halt.Halt.{Halt}
@@ -144,7 +145,12 @@ rest_writes (halt.Verdict v) log none = none
 rest_writes (halt.Fault (fault.Device number)) log last = last
 rest_writes (halt.Fault (fault.Tampered number)) log none = none
 
--- and at the end of an attempt that ends the run
+-- an attempt that a failed access has cut did not succeed
+pub cut_short : (why : VaultFault) (a : ℕ) → outcome_of why ≡ outcome.Shuffled a → ⊥
+cut_short (fault.Device number) a same = cc
+cut_short (fault.Tampered number) a same = cc
+
+-- which writes failed, at the end of an attempt that ends the run
 pub cut_writes : (why : VaultFault) (log : List Carried) → WritesEnd (Err why) log → WritesOf (outcome_of why) log
 cut_writes (fault.Device number) log last = last
 cut_writes (fault.Tampered number) log none = none

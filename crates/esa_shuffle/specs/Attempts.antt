@@ -1,10 +1,11 @@
 -- How an attempt of a run ends, and what it adds to the history.
-use Rattle.std.specs.Prelude.{◌≡◌, ℕ, List, [], ◌∷◌, ◌++◌, take, true, Result, Ok, Err, OnOk}
+use Rattle.std.specs.Prelude.{◌≡◌, ℕ, List, [], ◌∷◌, ◌++◌, take, true, Option, Some, None, Result, Ok, Err, OnOk}
 use Rattle.esa_device.specs.Logs.{Carried}
 use Rattle.esa_params.specs.Sizes.{Sizes}
 use Rattle.esa_spec.specs.Draws.{Draw}
 use Rattle.esa_spec.specs.Verdicts.{is_finished, verdict}
 use Rattle.esa_spec.specs.declared.event.Verdict.{Verdict}
+use Rattle.esa_spec.specs.declared.event.Verdict.TheVariants as verdicts
 use Rattle.esa_vault.specs.declared.fault.VaultFault.{VaultFault}
 use Rattle.esa_vault.specs.declared.fault.VaultFault.TheVariants as fault
 use Rattle.esa_floor.specs.Ends.{IsOver}
@@ -13,6 +14,8 @@ use Rattle.esa_floor.specs.Standing.{Stands, turns_made}
 use Rattle.esa_floor.specs.Written.{NoWriteFailed, OnlyLastFailed}
 use Rattle.esa_floor.specs.declared.turn.Outcome.{Outcome}
 use Rattle.esa_floor.specs.declared.turn.Outcome.TheVariants as outcome
+use Rattle.esa_floor.specs.declared.turn.Stop.{Stop}
+use Rattle.esa_floor.specs.declared.turn.Stop.TheVariants as stop
 use Rattle.esa_press.specs.declared.halt.Halt.{Halt}
 use Rattle.esa_press.specs.declared.halt.Halt.TheVariants as halt
 
@@ -31,6 +34,13 @@ abbrev pub AttemptEnd : {V : Type 0} → (V → ℕ) → Sizes → (ℕ → Draw
 AttemptEnd faults p ds a f (Ok v) =
     IsOver faults p ds f a × (is_finished f.plan (ds a) (turns_made f) ≡ true) × (verdict f.plan (ds a) (turns_made f) ≡ v)
 AttemptEnd faults p ds a f (Err fault) = Stands faults p ds (ended_as f (outcome_of fault))
+
+-- what a stop of its turns makes of an attempt. Without one its turns don't decide
+abbrev pub EndsByStop : Option Stop → Result Verdict VaultFault → Type 0
+EndsByStop None result = Unit {0}
+EndsByStop (Some (stop.StashOverflow j)) result = result ≡ Ok (verdicts.StashOverflow j)
+EndsByStop (Some (stop.DeviceFault number)) result = result ≡ Err (fault.Device number)
+EndsByStop (Some (stop.Tampered number)) result = result ≡ Err (fault.Tampered number)
 
 -- which writes failed by the end of an attempt, where none failed before: none, or the last access alone
 abbrev pub WritesEnd : Result Verdict VaultFault → List Carried → Type 0

@@ -4,13 +4,13 @@ ghost use Rattle.std.specs.Prelude.{◌≡◌, ℕ, ◌*◌, ◌<◌, None, Ok, 
 ghost use Rattle.esa_device.specs.Logs.{IsFaithful};
 ghost use Rattle.esa_floor.specs.Keeping.{HasInput, QueuesHold, SlotsHold};
 ghost use Rattle.esa_floor.specs.Standing.{Stands, turns_made};
-ghost use Rattle.esa_floor.specs.Written.{EachTookItsBlock, NoWriteFailed, WritesFailed};
+ghost use Rattle.esa_floor.specs.Written.{AreItems, EachTookItsBlock, NoWriteFailed, WritesFailed};
 ghost use Rattle.esa_params.specs.Slots.{item_length};
-ghost use Rattle.esa_press.specs.Contents.{AreItems, AreOrders, AreOutputsStored};
+ghost use Rattle.esa_press.specs.Contents.{AreOrders, AreOutputsStored};
 ghost use Rattle.esa_press.specs.Over.{IsDistributed};
 ghost use Rattle.esa_report.specs.declared.item.Item.{Item};
 ghost use Rattle.esa_spec.specs.Fronts.{Begins};
-ghost use Rattle.esa_shuffle.specs.Attempts.{AttemptEnd, WritesEnd, end_of};
+ghost use Rattle.esa_shuffle.specs.Attempts.{AttemptEnd, EndsByStop, WritesEnd, end_of};
 
 use esa_device::Device;
 use esa_floor::{Floor, Stop, Told};
@@ -94,6 +94,7 @@ pub fn finish<V: Device, G: Told, C: Coins>(
     ensures took { (record_of : ℕ → Item) → AreItems (item_length floor.old.plan.form) record_of → QueuesHold G.draws floor.old → SlotsHold G.draws floor.old
         → EachTookItsBlock G.draws record_of floor.old → EachTookItsBlock G.draws record_of floor.new }
     ensures writes { WritesFailed floor.old.stop floor.old.recorder.log → WritesEnd result floor.new.recorder.log }
+    ensures stopped { EndsByStop floor.old.stop result }
     ensures plan { press.new.plan ≡ press.old.plan }
     ensures run { press.new.run ≡ press.old.run }
 {

@@ -1,18 +1,21 @@
 -- The rest of an attempt, on the floor that the crew has distributed.
 use Rattle.std.proofs.Common.{◌≡◌, ◌≢◌, ℕ, List, None, Some, sym, ap, ◌∙◌, subst}
+use Rattle.std.specs.Prelude.{OnOk}
 use Rattle.esa_device.specs.Logs.{IsFaithful}
 use Rattle.esa_envelope.specs.declared.keys.Keys.{Keys}
 use Rattle.esa_ending.proofs.FrontLaws.{onward}
 use Rattle.esa_floor.specs.Parts.{Parts}
 use Rattle.esa_floor.specs.Standing.{turns_made}
+use Rattle.esa_floor.specs.Written.{AreItems}
+use Rattle.esa_parallel.specs.Crews.{IsDoneByAll}
 use Rattle.esa_floor.specs.declared.floor.Roots.{Roots}
 use Rattle.esa_floor.proofs.Resting.{working}
 use Rattle.esa_params.specs.Sizes.{Sizes}
 use Rattle.esa_params.specs.Slots.{item_length}
-use Rattle.esa_press.specs.Contents.{AreItems, AreOrders, AreOutputsStored}
+use Rattle.esa_press.specs.Contents.{AreOrders, AreOutputsStored}
 use Rattle.esa_shuffle.proofs.Contents.{faithful_before}
 use Rattle.esa_workers.proofs.Turning.{there}
-use Rattle.esa_parallel.proofs.Attempting.{has_floor_still, longer_still, rests_still, turns_of_all_still, turns_still}
+use Rattle.esa_parallel.proofs.Attempting.{done_by_all, has_floor_still, longer_still, rests_still, turns_of_all_still, turns_still}
 use Rattle.esa_parallel.proofs.attempt.make_attempt.Goals as goal
 
 pub finish-end-requires-clause-plan : goal.finish-end-requires-clause-plan
@@ -81,3 +84,21 @@ pub returns-clause-posts : goal.returns-clause-posts
 returns-clause-posts g c = λ k d inside.
     rests_still g.G.Told.plan c.distribute-held.result.value c.finish-end.new.floor c.finish-end.ensures.floor g.V.Device.faults g.G.Told.draws g.C.Coins.target_list c.args.turnstile.now k _
     (c.distribute-held.ensures.posts k d inside)
+
+pub returns-clause-done : goal.returns-clause-done
+returns-clause-done g c =
+    let p = g.G.Told.plan in
+    let ds = g.G.Told.draws in
+    let a = c.args.attempt in
+    let mid = c.distribute-held.result.value in
+    let there = c.distribute-held.ensures in
+    subst (λ (h : List ℕ). OnOk c.finish-end.result (IsDoneByAll p (ds a) h)) (sym (turns_still p mid c.finish-end.new.floor c.finish-end.ensures.floor))
+    (done_by_all g.V.Device.faults p ds mid a there.kept.stands there.attempt there.floor.room c.finish-end.result c.finish-end.ensures.stopped there.turns)
+
+pub returns-clause-took : goal.returns-clause-took
+returns-clause-took g c = λ record_of items.
+    let kept = c.distribute-held.ensures.kept in
+    c.finish-end.ensures.took record_of (subst (λ (q : Sizes). AreItems (item_length q.form) record_of) (sym kept.stands.of.plan) items) kept.queues kept.slots (kept.took record_of items)
+
+pub returns-clause-writes : goal.returns-clause-writes
+returns-clause-writes g c = c.finish-end.ensures.writes c.distribute-held.ensures.kept.writes

@@ -1,15 +1,17 @@
 -- The floor that was made has done nothing, and is what the turnstile was opened on.
-use Rattle.std.proofs.Common.{◌≡◌, ℕ, ◌+◌, ◌<◌, All, sym, ap, subst, arith}
+use Rattle.std.proofs.Common.{ℕ, All, sym, ap, subst, arith}
 use Rattle.esa_floor.specs.Marks.{mark_of}
 use Rattle.esa_floor.specs.Parts.{Parts}
-use Rattle.esa_turnstile.specs.Passes.{IsNewPass, IsPassOf, opened_of, tickets_of}
-use Rattle.esa_parallel.proofs.Opening.{kept_idle}
+use Rattle.esa_spec.specs.Histories.{begun}
+use Rattle.esa_turnstile.specs.Passes.{IsNewPass, IsPassOf, opened_of}
+use Rattle.esa_parallel.proofs.Fronting.{kept_unbegun}
 use Rattle.esa_parallel.proofs.crew.open.Goals as goal
 
 pub make-requires-in-Ok-clause-sound : goal.make-requires-in-Ok-clause-sound
 make-requires-in-Ok-clause-sound g c =
     let parts = c.in-Ok.ensures.parts in
-    kept_idle g.V.Device.faults g.G.Told.plan g.G.Told.draws c.in-Ok.floor c.in-Ok.ensures.stands (ap (λ (x : Parts _). x.attempt) parts) c.keeps_its_log.ensures
+    kept_unbegun g.V.Device.faults g.G.Told.plan g.G.Told.draws c.in-Ok.floor c.in-Ok.ensures.stands (ap (λ (x : Parts _). begun g.G.Told.plan.workers x.history) parts)
+    c.keeps_its_log.ensures
 
 pub returns-in-Ok-make-clause-dealt : goal.returns-in-Ok-make-clause-dealt
 returns-in-Ok-make-clause-dealt g c =

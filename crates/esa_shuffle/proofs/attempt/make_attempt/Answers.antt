@@ -12,9 +12,9 @@ use Rattle.esa_crew.specs.Posts.{ArePosts}
 use Rattle.esa_floor.specs.Keeping.{HasInput, QueuesHold, SlotsHold}
 use Rattle.esa_floor.specs.Parts.{Parts, begun_as}
 use Rattle.esa_floor.specs.Standing.{attempt_begun, turns_made}
-use Rattle.esa_floor.specs.Written.{EachTookItsBlock, WritesFailed}
+use Rattle.esa_floor.specs.Written.{AreItems, EachTookItsBlock, WritesFailed}
 use Rattle.esa_floor.specs.declared.floor.Roots.{Roots}
-use Rattle.esa_press.specs.Contents.{AreItems, AreOutputsStored}
+use Rattle.esa_press.specs.Contents.{AreOutputsStored}
 use Rattle.esa_shuffle.proofs.Contents.{faithful_before, input_stays}
 use Rattle.esa_shuffle.proofs.Taking.{adds, all_written, good_turns, members_on}
 use Rattle.esa_shuffle.proofs.attempt.make_attempt.Goals as goal

@@ -1,5 +1,9 @@
 -- A turn that failed ends the attempt.
-use Rattle.std.proofs.Common.{Some, sym, ap, ◌∙◌}
+use Rattle.std.proofs.Common.{Option, Some, Ok, Err, refl, sym, ap, ◌∙◌, subst}
+use Rattle.esa_floor.specs.declared.turn.Stop.{Stop}
+use Rattle.esa_spec.specs.declared.event.Verdict.TheVariants as verdicts
+use Rattle.esa_vault.specs.declared.fault.VaultFault.TheVariants as fault
+use Rattle.esa_shuffle.specs.Attempts.{EndsByStop}
 use Rattle.esa_shuffle.proofs.Stopped.{fault_end, overflow_end, tampered_end}
 use Rattle.esa_shuffle.proofs.rest.finish.Goals as goal
 
@@ -17,3 +21,21 @@ pub returns-in-Some-Tampered-clause-ends : goal.returns-in-Some-Tampered-clause-
 returns-in-Some-Tampered-clause-ends g c =
     tampered_end g.V.Device.faults g.G.Told.plan g.G.Told.draws c.args.floor.now c.args.attempt c.requires.stands c.requires.attempt c.requires.room c.in-Some-Tampered.number
     (sym c.stop.ensures ∙ c.in-Some-Tampered.is ∙ ap Some c.in-Some-Tampered.field-0-is)
+
+pub returns-in-None-clause-stopped : goal.returns-in-None-clause-stopped
+returns-in-None-clause-stopped g c = subst (λ (s : Option Stop). EndsByStop s c.press_on.result) (sym (sym c.stop.ensures ∙ c.in-None.is)) tt
+
+pub returns-in-Some-StashOverflow-clause-stopped : goal.returns-in-Some-StashOverflow-clause-stopped
+returns-in-Some-StashOverflow-clause-stopped g c =
+    subst (λ (s : Option Stop). EndsByStop s (Ok (verdicts.StashOverflow c.in-Some-StashOverflow.bucket)))
+    (sym (sym c.stop.ensures ∙ c.in-Some-StashOverflow.is ∙ ap Some c.in-Some-StashOverflow.field-0-is)) refl
+
+pub returns-in-Some-DeviceFault-clause-stopped : goal.returns-in-Some-DeviceFault-clause-stopped
+returns-in-Some-DeviceFault-clause-stopped g c =
+    subst (λ (s : Option Stop). EndsByStop s (Err (fault.Device c.in-Some-DeviceFault.number)))
+    (sym (sym c.stop.ensures ∙ c.in-Some-DeviceFault.is ∙ ap Some c.in-Some-DeviceFault.field-0-is)) refl
+
+pub returns-in-Some-Tampered-clause-stopped : goal.returns-in-Some-Tampered-clause-stopped
+returns-in-Some-Tampered-clause-stopped g c =
+    subst (λ (s : Option Stop). EndsByStop s (Err (fault.Tampered c.in-Some-Tampered.number)))
+    (sym (sym c.stop.ensures ∙ c.in-Some-Tampered.is ∙ ap Some c.in-Some-Tampered.field-0-is)) refl

@@ -15,21 +15,18 @@ use Rattle.esa_shuffle.specs.Attempts.{AddsAttempt}
 use Rattle.esa_shuffle.specs.Runs.{MayEnd, entries_before}
 use Rattle.esa_shuffle.proofs.Running.{IsBefore, ends_cut, ends_good, leads_on, room_for}
 use Rattle.esa_shuffle.proofs.Taking.{All-full, workers_at}
-use Rattle.std.proofs.Common.{[], refl, true}
+use Rattle.std.proofs.Common.{[]}
 use Rattle.std.proofs.lemmas.List.FromFn.{get_or-map-range_with_len}
 use Rattle.esa_device.specs.Logs.{IsFaithful}
 use Rattle.esa_envelope.specs.declared.keys.Keys.{Keys}
 use Rattle.esa_params.specs.Slots.{item_length}
-use Rattle.esa_spec.specs.Verdicts.{is_good}
-use Rattle.esa_spec.specs.declared.event.Verdict.TheVariants as verdicts
-use Rattle.esa_vault.specs.declared.fault.VaultFault.TheVariants as fault
 use Rattle.esa_ending.specs.Seen.{turns_in}
 use Rattle.esa_ending.proofs.FrontLaws.{onward}
-use Rattle.esa_floor.specs.declared.turn.Outcome.TheVariants as outcome
-use Rattle.esa_press.specs.Contents.{AreItems, AreOutputsStored}
-use Rattle.esa_shuffle.specs.Attempts.{outcome_of}
+use Rattle.esa_floor.specs.Written.{AreItems}
+use Rattle.esa_press.specs.Contents.{AreOutputsStored}
 use Rattle.esa_shuffle.proofs.Contents.{faithful_before}
-use Rattle.esa_shuffle.proofs.Taken.{cut_writes}
+use Rattle.esa_shuffle.proofs.Stopped.{good_is}
+use Rattle.esa_shuffle.proofs.Taken.{cut_short, cut_writes}
 use Rattle.esa_shuffle.specs.Records.{WritesOf}
 use Rattle.esa_shuffle.proofs.runs.make_attempts.Goals as goal
 
@@ -39,17 +36,6 @@ added_in : (p q : Sizes) (ds : ℕ → Draw) (turns : List (List ℕ)) (a : ℕ)
 added_in p q ds turns a list old new result same is added =
     subst (λ (l : List ℕ). AddsAttempt p (full p (ds a) l) old new result) is
     (subst (λ (x : Sizes). AddsAttempt x (full x (ds a) list) old new result) same added)
-
-good_is : (v : Verdict) → is_good v ≡ true → v ≡ verdicts.Good
-good_is verdicts.Good e = refl
-good_is (verdicts.StashOverflow j) e = absurd (cc)
-good_is (verdicts.StashLeft j) e = absurd (cc)
-good_is (verdicts.QueueOverflow j) e = absurd (cc)
-good_is (verdicts.QueueStarved j) e = absurd (cc)
-
-not_shuffled : (why : VaultFault) (a : ℕ) → outcome_of why ≡ outcome.Shuffled a → ⊥
-not_shuffled (fault.Device number) a same = cc
-not_shuffled (fault.Tampered number) a same = cc
 
 pub make_attempt-requires-clause-room : goal.make_attempt-requires-clause-room
 make_attempt-requires-clause-room g c =
@@ -165,7 +151,7 @@ returns-then-is_good-clause-outputs g c = λ record_of named items faithful inpu
     (inv.input record_of (faithful_before p f.recorder.log log done.log faithful) input) good)))))
 
 pub returns-in-Err-clause-outputs : goal.returns-in-Err-clause-outputs
-returns-in-Err-clause-outputs g c = λ record_of named items faithful input same. absurd (not_shuffled c.in-Err.fault named (sym c.outcome_by.ensures ∙ same))
+returns-in-Err-clause-outputs g c = λ record_of named items faithful input same. absurd (cut_short c.in-Err.fault named (sym c.outcome_by.ensures ∙ same))
 
 pub returns-then-is_good-clause-input : goal.returns-then-is_good-clause-input
 returns-then-is_good-clause-input g c = λ record_of faithful input.

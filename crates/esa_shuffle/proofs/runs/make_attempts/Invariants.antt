@@ -2,9 +2,8 @@
 use Rattle.std.proofs.Common.{◌≡◌, ℕ, ◌<◌, length}
 use Rattle.esa_device.specs.Logs.{IsFaithful}
 use Rattle.esa_floor.specs.Keeping.{HasInput}
-use Rattle.esa_floor.specs.Written.{EachTookItsBlock, NoWriteFailed}
+use Rattle.esa_floor.specs.Written.{AreItems, EachTookItsBlock, NoWriteFailed}
 use Rattle.esa_params.specs.Slots.{item_length}
-use Rattle.esa_press.specs.Contents.{AreItems}
 use Rattle.esa_report.specs.declared.item.Item.{Item}
 use Rattle.esa_spec.specs.Fronts.{Begins}
 use Rattle.esa_crew.specs.Posts.{AreMembers}

@@ -38,6 +38,8 @@ returns-clause-kept g c =
       logged = c.keeps_its_log.ensures;
       queues = t.queues keeps.records c.requires.kept.queues;
       slots = t.slots keeps.chunks c.requires.kept.slots;
+      took = λ record_of items. t.took record_of keeps.chunks (c.requires.kept.took record_of items);
+      writes = t.writes c.requires.kept.writes;
     }
 
 pub returns-clause-trail : goal.returns-clause-trail
