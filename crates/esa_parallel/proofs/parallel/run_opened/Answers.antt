@@ -1,5 +1,5 @@
 -- The last pass is the owner's, and each worker has the one of its number.
-use Rattle.std.proofs.Common.{◌≡◌, ℕ, ◌+◌, ◌<◌, List, [], ◌∷◌, ◌++◌, length, get_or, sym, ap, ◌∙◌, subst, arith}
+use Rattle.std.proofs.Common.{◌≡◌, ℕ, ◌<◌, [], ◌∷◌, length, get_or, sym, ap, ◌∙◌, subst, arith}
 use Rattle.std.proofs.lemmas.List.{get_or_append_left, get_or_push, length-append}
 use Rattle.esa_floor.specs.Marks.{mark_of}
 use Rattle.esa_turnstile.specs.Passes.{IsNewPass, added_of, number_of, opened_of, tickets_of}
