@@ -1,16 +1,16 @@
 -- The attempts of a run by a crew, one after another: what a floor is between two of them, and how one ends the run or leads on.
-use Rattle.std.proofs.Common.{◌≡◌, ℕ, zero, suc, ◌+◌, ◌-◌, ◌<◌, ◌≤◌, Bool, true, false, cond, List, [], ◌∷◌, ◌++◌, length, get_or, map, take, All, None, Ok, Err, refl, sym, ap, ap₂, ◌∙◌, subst, arith, inl, inr, add-one, append-nil, append_assoc, length-append, take_all}
+use Rattle.std.proofs.Common.{◌≡◌, ℕ, ◌+◌, ◌<◌, ◌≤◌, Bool, true, false, cond, List, [], ◌∷◌, ◌++◌, length, map, All, None, Ok, Err, refl, sym, ap, ap₂, ◌∙◌, subst, arith, inl, inr, add-one, append-nil, append_assoc, length-append, take_all}
 use Rattle.std.specs.Prelude.{flat_map}
 use Rattle.std.proofs.lemmas.Bool.{cases_eq, cases_lt}
 use Rattle.std.proofs.lemmas.List.{get_or_append_left, get_or_push}
 use Rattle.std.proofs.lemmas.List.Concat.{flat_map-append}
-use Rattle.std.proofs.lemmas.List.Elements.{All-head, All-tail}
+use Rattle.std.proofs.lemmas.List.Elements.{All-head}
 use Rattle.esa_laws.proofs.FinishLaws.{turns_of-append}
 use Rattle.esa_laws.proofs.HistoryLaws.{begun-owner, lists-first}
 use Rattle.esa_laws.proofs.Ranges.{map-below-same, map-below-suc}
 use Rattle.esa_params.specs.Sizes.{Sizes, below}
 use Rattle.esa_spec.specs.Draws.{Draw}
-use Rattle.esa_spec.specs.Histories.{begun, lists}
+use Rattle.esa_spec.specs.Histories.{begun}
 use Rattle.esa_spec.specs.Traces.{is_failed}
 use Rattle.esa_spec.specs.Verdicts.{is_good, verdict}
 use Rattle.esa_spec.specs.declared.event.Verdict.{Verdict}

@@ -1,11 +1,10 @@
 -- A worker that was made, with a pass that was dealt, rests before the first attempt.
-use Rattle.std.proofs.Common.{◌≡◌, ℕ, ◌+◌, ◌-◌, ◌*◌, ◌<◌, ◌≤◌, List, [], ◌++◌, refl, sym, ap, ◌∙◌, subst, arith, mul_comm}
+use Rattle.std.proofs.Common.{◌≡◌, ℕ, ◌+◌, ◌-◌, ◌*◌, ◌<◌, ◌≤◌, List, ◌++◌, refl, sym, ap, ◌∙◌, subst, arith, mul_comm}
 use Rattle.std.proofs.Math.Nat.{mul-le-mul_right}
-use Rattle.esa_envelope.specs.declared.keys.Keys.{Keys}
 use Rattle.esa_params.specs.Sizes.{Sizes}
 use Rattle.esa_spec.specs.Draws.{Draw, drawn}
 use Rattle.esa_spec.specs.Histories.{begun}
-use Rattle.esa_crew.specs.Posts.{IsMember, IsNewWorker}
+use Rattle.esa_crew.specs.Posts.{IsNewWorker}
 use Rattle.esa_floor.specs.Parts.{Parts}
 use Rattle.esa_floor.specs.Working.{Working}
 use Rattle.esa_floor.specs.declared.floor.Roots.{Roots}
@@ -16,7 +15,6 @@ use Rattle.esa_turnstile.specs.declared.turnstile.Turnstile.{Turnstile}
 use Rattle.esa_workers.specs.Distributions.{Rests}
 use Rattle.esa_workers.specs.Posts.{IsPlaced}
 use Rattle.esa_workers.specs.Works.{most_turns}
-use Rattle.esa_workers.specs.declared.posts.Manned.{Manned}
 
 pub rests_new : {V C : Type 0} (faults : V → ℕ) (ds : ℕ → Draw) (targets orders : C → ℕ → ℕ → List ℕ) (p : Sizes) (t : Turnstile (Parts V) Roots) (coins : C) (k mark : ℕ)
     (w : Working C) (pass : Pass (Parts V)) → (opened_of t).plan ≡ p → ((a : ℕ) → ds a ≡ drawn (targets coins) (orders coins) a) → k < p.workers

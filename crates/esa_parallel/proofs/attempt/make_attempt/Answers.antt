@@ -1,5 +1,5 @@
 -- The rest of an attempt, on the floor that the crew has distributed.
-use Rattle.std.proofs.Common.{◌≡◌, ◌≢◌, ℕ, List, None, Some, sym, ap, ◌∙◌, subst}
+use Rattle.std.proofs.Common.{◌≢◌, ℕ, List, None, sym, ap, ◌∙◌, subst}
 use Rattle.std.specs.Prelude.{OnOk}
 use Rattle.esa_device.specs.Logs.{IsFaithful}
 use Rattle.esa_envelope.specs.declared.keys.Keys.{Keys}

@@ -1,5 +1,5 @@
 -- The last pass is the owner's, and each worker has the one of its number.
-use Rattle.std.proofs.Common.{◌≡◌, ℕ, ◌+◌, ◌<◌, List, [], ◌∷◌, ◌++◌, length, get_or, sym, ap, ◌∙◌, subst, arith}
+use Rattle.std.proofs.Common.{◌≡◌, ℕ, ◌<◌, [], ◌∷◌, length, get_or, sym, ap, ◌∙◌, subst, arith}
 use Rattle.std.proofs.lemmas.List.{get_or_append_left, get_or_push, length-append}
 use Rattle.esa_floor.specs.Marks.{mark_of}
 use Rattle.esa_turnstile.specs.Passes.{IsNewPass, added_of, number_of, opened_of, tickets_of}
@@ -45,7 +45,7 @@ pub run_on-requires-clause-owner_new : goal.run_on-requires-clause-owner_new
 run_on-requires-clause-owner_new g c =
     let at = (goal.at.run_on-requires-clause-owner_new g c).After-as_mut_slice in
     let t = c.args.opened.turnstile in
-    let within = let all = c.requires.dealt_each in omega (arith, all) in
+    let within : g.G.Told.plan.workers < length c.args.opened.passes.items = let all = c.requires.dealt_each in omega (arith, all) in
     λ lives outlive. (
       mark_of (opened_of t),
       subst (IsNewPass (tickets_of t) (mark_of (opened_of t))) (at_end g at) (c.requires.dealt g.G.Told.plan.workers c.in-Some.owner within).1,
