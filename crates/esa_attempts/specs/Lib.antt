@@ -1,2 +1,3 @@
-pub mod Odd
 pub mod Batch
+pub mod Odd
+pub mod Replays

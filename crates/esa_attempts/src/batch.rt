@@ -9,12 +9,16 @@ use esa_params::Plan;
 use std::alloc::{AllocError, Global};
 use std::marker::Model;
 
-/// Outer envelopes, one after another. The text of each is the number of its place, byte after byte.
+/// Outer envelopes, one after another. The text of each is the number of its place, byte after byte. One read of them may
+/// fail.
 #[derive(Drop)]
 pub struct Numbered {
     count: u32,
     size: u32,
     bytes: Vec<u8>,
+    fails: Option<u64>,
+    reads: u64,
+    faults: u64,
 }
 
 impl Model for Numbered {
@@ -23,21 +27,33 @@ impl Model for Numbered {
 
     ghost Value = { Many };
 
-    ghost view = { λ b. record { count = b.count; size = b.size } };
+    ghost view = { λ b. record { count = b.count; size = b.size; faults = b.faults } };
 
     ghost invariant = { λ b. length b.bytes.items ≡ b.count * b.size };
 }
 
 impl Numbered {
-    /// As many envelopes as a plan has records.
-    pub fn make(alloc: Global, plan: &Plan, outer: &Keys) -> Result<Numbered, AllocError>
-        ensures { IfOk result (λ b. b ≡ record { count = plan.now.n; size = envelope_length plan.now.form }) }
+    /// As many envelopes as a plan has records. The read of this number fails, counted from 1 on.
+    pub fn make(
+        alloc: Global,
+        plan: &Plan,
+        outer: &Keys,
+        fails: Option<u64>,
+    ) -> Result<Numbered, AllocError>
+        ensures { IfOk result (λ b. b ≡ record { count = plan.now.n; size = envelope_length plan.now.form; faults = 0 }) }
     {
         let (count, size) = (plan.n(), plan.form().envelope());
         let mut bytes = vec![in alloc; 0; count as usize * size as usize]?;
         let plain = vec![in alloc; 0; size as usize - 40]?;
         seal_all(&prepare(outer), plain, &mut bytes);
-        Ok(Numbered { count, size, bytes })
+        Ok(Numbered {
+            count,
+            size,
+            bytes,
+            fails,
+            reads: 0,
+            faults: 0,
+        })
     }
 }
 
@@ -65,14 +81,14 @@ impl Records for Numbered {
 
     ghost size = { λ b. b.size };
 
-    ghost faults = { λ _. 0 };
+    ghost faults = { λ b. b.faults };
 
     ghost heard = { λ _. [] };
 
     ghost part = { λ ground first bytes. [] };
 
     fn faults(&self) -> u64 {
-        0
+        self.faults
     }
 
     fn count(&self) -> u32 {
@@ -86,6 +102,11 @@ impl Records for Numbered {
     fn told_as_counted(&self) {}
 
     fn records(&mut self, first: u32, out: &mut [u8]) -> Result<(), Failed> {
+        self.reads = self.reads.saturating_add(1);
+        if self.fails == Some(self.reads) && !out.is_empty() {
+            self.faults = self.faults.saturating_add(1);
+            return Err(Failed);
+        }
         let at = first as usize * self.size as usize;
         out.copy_from_slice(&self.bytes[at..at + out.len()]);
         Ok(())

@@ -9,9 +9,11 @@
 
 mod batch;
 mod compare;
+mod floors;
 mod measure;
 mod odd;
 mod perform;
+mod replays;
 mod seen;
 mod setup;
 

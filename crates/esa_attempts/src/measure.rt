@@ -4,11 +4,10 @@ ghost use Rattle.std.specs.Prelude.{◌≡◌, ◌≤◌, [], Some};
 ghost use Rattle.esa_params.specs.Slots.{greatest_trace};
 
 use crate::batch::Numbered;
-use crate::setup::{number_of, plan_of};
+use crate::setup::{block_keys, number_of, outer_keys, plan_of};
 use anyhow::{Result, bail, ensure};
 use esa_coins::{Draw, SeededCoins};
 use esa_device::{Device, MemDevice, Recorder};
-use esa_envelope::{Label, keys_of};
 use esa_model::Turns;
 use esa_params::Plan;
 use esa_report::{Item, Kind};
@@ -54,9 +53,8 @@ fn run_with(alloc: Global, plan: Plan, recorder: Recorder<MemDevice>) -> Result<
     requires room { greatest_trace plan ≤ recorder.room }
 {
     let coins = SeededCoins::make([3; 32], Draw::Single, plan);
-    let outer = keys_of(&[5; 32], Label::Outer);
-    let keys = keys_of(&[7; 32], Label::Block);
-    let mut batch = Numbered::make(alloc, &plan, &outer)?;
+    let (outer, keys) = (outer_keys(), block_keys());
+    let mut batch = Numbered::make(alloc, &plan, &outer, None)?;
     let turns = Turns::none(alloc);
     let ran = run_turns(
         alloc, plan, outer, keys, &coins, &mut batch, recorder, &turns,

@@ -19,9 +19,9 @@ pub enum Oddity {
         /// The place.
         byte: u32,
     },
-    /// A read gives the block of the slot of this number, if it is as long.
+    /// A read gives the block of the slot of this number, and a write puts it, if it is as long.
     Gives(u32),
-    /// A write leaves what was there.
+    /// Nothing is read, or put: a read leaves what was in its room, and a write what was in its slot.
     Forgets,
 }
 
@@ -80,7 +80,7 @@ fn oddity_at(oddities: &[At], access: u64) -> Option<Oddity> {
     }
 }
 
-/// The slot whose block a read gives: another one, where the access is odd so and that block is as long.
+/// The slot whose block an access gives: another one, where it is odd so and that block is as long.
 fn given_slot(plan: Option<Plan>, oddity: Option<Oddity>, slot: u32, length: usize) -> u32
     requires { HasBlock plan slot length }
     ensures { HasBlock plan result length }
@@ -111,6 +111,27 @@ fn copy_of(alloc: Global, oddity: Option<Oddity>, bytes: &[u8]) -> Result<Vec<u8
     let mut copy = Vec::from_slice(alloc, bytes)?;
     flip(oddity, &mut copy);
     Ok(copy)
+}
+
+impl OddDevice {
+    /// Puts bytes into a slot, in the way that the access is odd.
+    fn put(&mut self, oddity: Option<Oddity>, slot: u32, bytes: &[u8]) -> Result<(), Failed>
+        requires { HasBlock self.old.plan slot (length bytes.now) }
+        ensures { self.new ≡ self.old }
+    {
+        let Ok(mut copy) = copy_of(self.alloc, oddity, bytes) else {
+            return Err(Failed);
+        };
+        match oddity {
+            Some(Oddity::Fails) => return Err(Failed),
+            Some(Oddity::Gives(_)) => {
+                let from = given_slot(self.plan, oddity, slot, copy.len());
+                self.memory.read(from, &mut copy)?;
+            }
+            _ => {}
+        }
+        self.memory.write(slot, &copy)
+    }
 }
 
 impl Device for OddDevice {
@@ -148,6 +169,9 @@ impl Device for OddDevice {
         self.calls = self.calls.saturating_add(1);
         self.last_call = Some((Op::Read, slot));
         let oddity = oddity_at(&self.oddities, self.calls);
+        if oddity == Some(Oddity::Forgets) {
+            return Ok(());
+        }
         let from = given_slot(self.plan, oddity, slot, out.len());
         let failed = self.memory.read(from, out).is_err();
         if failed || oddity == Some(Oddity::Fails) {
@@ -165,15 +189,11 @@ impl Device for OddDevice {
         if oddity == Some(Oddity::Forgets) {
             return Ok(());
         }
-        let failed = match copy_of(self.alloc, oddity, bytes) {
-            Ok(copy) => oddity == Some(Oddity::Fails) || self.memory.write(slot, &copy).is_err(),
-            Err(_) => true,
-        };
-        if failed {
+        let put = self.put(oddity, slot, bytes);
+        if put.is_err() {
             self.faults = self.faults.saturating_add(1);
-            return Err(Failed);
         }
-        Ok(())
+        put
     }
 
     fn calls(&self) -> u64 {

@@ -1,6 +1,7 @@
 //! What is seen of a run, as lines.
 
 ghost use Rattle.std.specs.Prelude.{◌≡◌, ◌<◌, Some};
+ghost use Rattle.esa_params.specs.Slots.{IsPlanned};
 
 use anyhow::{Result, bail, ensure};
 use esa_device::{Device, Recorder};
@@ -62,57 +63,93 @@ pub fn add_outputs<V: Device>(
     };
     for bucket in 0..plan.b() {
         ensure!(recorder.room() > 0, "no room for an access");
-        add_output(alloc, out, recorder, &plan, run, attempt, bucket)?;
+        let slot = Slot {
+            region: Region::Output,
+            index: bucket,
+        };
+        write!(out, "output {bucket}")?;
+        add_block(
+            alloc,
+            out,
+            recorder,
+            &plan,
+            run,
+            slot,
+            attempt,
+            plan.size(bucket),
+        )?;
     }
     Ok(())
 }
 
-/// Adds the line of an output bucket.
-fn add_output<V: Device>(
+/// Adds a line for each chunk, with the records in it, where these are the counts of the chunks, bucket after bucket.
+pub fn add_chunks<V: Device>(
+    alloc: Global,
+    out: &mut String,
+    recorder: &mut Recorder<V>,
+    run: &Keys,
+    attempt: u32,
+    counts: &[u32],
+) -> Result<()> {
+    let Some(plan) = recorder.plan() else {
+        bail!("the recorder isn't ready");
+    };
+    let b = plan.b();
+    for chunk in 0..b * b {
+        ensure!(recorder.room() > 0, "no room for an access");
+        let slot = Slot {
+            region: Region::Mid,
+            index: chunk,
+        };
+        let count = counts.get(chunk as usize).copied().unwrap_or_default();
+        write!(out, "chunk {} {}", chunk / b, chunk % b)?;
+        add_block(alloc, out, recorder, &plan, run, slot, attempt, count)?;
+    }
+    Ok(())
+}
+
+/// Ends the line of a block with the records in it, if it opens as one with so many.
+fn add_block<V: Device>(
     alloc: Global,
     out: &mut String,
     recorder: &mut Recorder<V>,
     plan: &Plan,
     run: &Keys,
+    slot: Slot,
     attempt: u32,
-    bucket: u32,
+    count: u32,
 ) -> Result<()>
-    requires bucket { bucket < plan.now.b }
+    requires slot { IsPlanned plan.now slot }
     requires ready { recorder.old.plan ≡ Some plan.now }
     requires room { 0 < recorder.old.room }
     ensures ready { recorder.new.plan ≡ recorder.old.plan }
 {
-    let slot = Slot {
-        region: Region::Output,
-        index: bucket,
-    };
     let length = plan.block_length(slot) as usize;
     let mut sealed = vec![in alloc; 0; length]?;
     let mut text = vec![in alloc; 0; length - 40]?;
-    let size = plan.size(bucket);
     if get_block(
         recorder,
         plan,
         &prepare(run),
         slot,
         attempt,
-        size,
+        count,
         &mut sealed,
         &mut text,
     )
     .is_err()
     {
-        writeln!(out, "output {bucket} doesn't open")?;
+        writeln!(out, " doesn't open")?;
         return Ok(());
     }
-    write!(out, "output {bucket} holds")?;
-    add_numbers(out, "", &numbers_in(alloc, &text)?)
+    out.push_str(" holds")?;
+    add_numbers(out, "", &numbers_in(alloc, &text, count)?)
 }
 
-/// The numbers of the records whose items these are.
-fn numbers_in(alloc: Global, text: &[u8]) -> Result<Vec<u32>> {
+/// The numbers of the records whose items these are, of the first so many.
+fn numbers_in(alloc: Global, text: &[u8], count: u32) -> Result<Vec<u32>> {
     let mut numbers = Vec::new(alloc);
-    for item in text.chunks_exact(ITEM) {
+    for item in text.chunks_exact(ITEM).take(count as usize) {
         numbers.push(u32::from(item[1]))?;
     }
     Ok(numbers)

@@ -1,4 +1,4 @@
-//! What a case sets up: the plan, the coins and the device.
+//! What a case sets up: the plan, the keys, the turns, the batch and the device.
 
 ghost use Rattle.std.specs.Prelude.{IfOk};
 ghost use Rattle.esa_model.specs.Turns.{AreWorkers};
@@ -6,6 +6,7 @@ ghost use Rattle.esa_model.specs.Turns.{AreWorkers};
 use crate::odd::{At, Oddity};
 use anyhow::{Context, Result, bail, ensure};
 use esa_case_file::Case;
+use esa_envelope::{Keys, Label, keys_of};
 use esa_model::Turns;
 use esa_params::{Form, Params, Plan, check};
 use std::alloc::Global;
@@ -24,6 +25,16 @@ pub fn bytes_of<'a>(case: &'a Case, name: &str) -> &'a [u8] {
 /// The same as text.
 pub fn text_of<'a>(case: &'a Case, name: &str) -> Result<&'a str> {
     std::str::from_utf8(bytes_of(case, name)).context("a file that is text")
+}
+
+/// The keys of the outer envelopes.
+pub fn outer_keys() -> Keys {
+    keys_of(&[5; 32], Label::Outer)
+}
+
+/// The keys of the blocks.
+pub fn block_keys() -> Keys {
+    keys_of(&[7; 32], Label::Block)
 }
 
 /// The plan of form One that a text says: names and numbers, as `records 4, b 2`. What it doesn't name is 1.
@@ -117,6 +128,27 @@ fn add_turns(lines: &mut String, list: &str) -> Result<()> {
         writeln!(lines, "{number}")?;
     }
     Ok(())
+}
+
+/// The read of the batch that fails, counted from 1 on, where a case says one, as `2 fails`.
+pub fn fault_of(case: &Case) -> Result<Option<u64>> {
+    let text = text_of(case, "batch")?;
+    if text.is_empty() {
+        return Ok(None);
+    }
+    match text.strip_suffix(" fails") {
+        Some(number) => Ok(Some(number_of(number)?)),
+        None => bail!("a read of the batch that fails"),
+    }
+}
+
+/// The worker that takes one more turn behind a replay, where a case says one.
+pub fn late_of(case: &Case) -> Result<Option<u32>> {
+    let text = text_of(case, "late")?;
+    if text.is_empty() {
+        return Ok(None);
+    }
+    Ok(Some(index_of(text)?))
 }
 
 /// What a text says is odd about a device: a line for each access, as `3 fails`, `3 flips byte 9`, `3 gives slot 1` or

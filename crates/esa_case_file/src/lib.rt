@@ -28,6 +28,8 @@ pub enum Call {
     Program,
     /// The program, where it can start threads.
     Crew,
+    /// The program, which runs on one thread, with its external memory in a file of the machine.
+    Disk,
     /// A reader of one file.
     Reader,
 }

@@ -162,6 +162,7 @@ impl Reader {
             "device" => add_device(self.case()?, rest),
             "run" => self.begin_run(Call::Program, rest),
             "crew" => self.begin_run(Call::Crew, rest),
+            "disk" => self.begin_run(Call::Disk, rest),
             "read" => self.begin_run(Call::Reader, rest),
             "prints" => self.add_printed(rest),
             "status" => self.set_status(rest),
