@@ -74,31 +74,32 @@ fn replayed<G: Told + Drop, V: Device + Drop, C: Coins>(
     else {
         bail!("no memory for a floor");
     };
-    load_and_replay(
+    let told = load_and_replay(
         &mut floor,
         &mut loader,
         &mut batch,
         &mut crew,
         turns,
         entries,
+        late,
     )?;
-    let told = late_turn(&mut floor, &mut crew, late);
     floor_lines(alloc, floor, &keys, told)
 }
 
 /// How many entries the history of a replay has at most: for each attempt the owner's and those of its turns, and one more.
 fn most_entries(plan: &Plan, turns: &Turns) -> u64
     ensures planned { ArePlanned plan.now }
+    ensures some { 0 < result }
 {
-    let mut entries = 1u64;
+    let mut entries = 0u64;
     for attempt in 0..plan.attempts() {
         let made = most_turns(plan, turns.list(attempt)) as u64;
         entries = entries.saturating_add(made + 1);
     }
-    entries
+    entries.saturating_add(1)
 }
 
-/// Loads a batch on a new floor, and replays the turns of its attempts.
+/// Loads a batch on a new floor, replays the turns of its attempts, and lets a worker have one more turn.
 fn load_and_replay<V: Device, G: Told, C: Coins, R: Records>(
     floor: &mut Floor<V, G>,
     loader: &mut Loader,
@@ -106,7 +107,8 @@ fn load_and_replay<V: Device, G: Told, C: Coins, R: Records>(
     crew: &mut [Worker<'_, C>],
     turns: &Turns,
     entries: u64,
-) -> Result<()>
+    late: Option<u32>,
+) -> Result<Option<(u32, Turn)>>
     requires new { IsUnbegun V.faults G.plan G.draws floor.old }
     requires plan { loader.old.plan ≡ floor.old.plan }
     requires run { loader.old.run ≡ floor.old.run }
@@ -116,12 +118,12 @@ fn load_and_replay<V: Device, G: Told, C: Coins, R: Records>(
     requires each { length crew.old ≡ floor.old.plan.workers }
     requires numbers { AreWorkers floor.old.plan.workers turns.now }
     requires room { length floor.old.history + entries ≤ floor.old.room }
-    ensures { OnOk result (HasReplayed V.faults G.plan G.draws C.target_list floor.new crew.new) }
 {
     let Ok(_loaded) = load(floor, loader, batch) else {
         bail!("the batch isn't loaded");
     };
-    replay_all(floor, crew, turns, entries)
+    replay_all(floor, crew, turns, entries)?;
+    Ok(late_turn(floor, crew, late))
 }
 
 /// Replays the turns of each attempt, up to the first that doesn't overflow the stash. There is room for so many entries.

@@ -15,8 +15,8 @@ replay-requires-clause-room g c =
     let room = c.requires.room in
     room_begun c.args.attempt turns f c.begin.new.floor c.begin.ensures.begun (omega (arith, most, room))
 
-pub returns-clause-replayed : goal.returns-clause-replayed
-returns-clause-replayed g c =
+pub returns-2-clause-replayed : goal.returns-2-clause-replayed
+returns-2-clause-replayed g c =
     let f = c.args.floor.now in
     let begun = c.begin.new.floor in
     let new = c.replay.new.floor in
@@ -34,8 +34,8 @@ returns-clause-replayed g c =
           ∙ sym (ap (λ (r : Roots). r.plan.workers) c.replay.ensures.origin ∙ ap (λ (x : Parts _). x.plan.workers) c.begin.ensures.begun);
     }
 
-pub returns-clause-room : goal.returns-clause-room
-returns-clause-room g c =
+pub returns-2-clause-room : goal.returns-2-clause-room
+returns-2-clause-room g c =
     let f = c.args.floor.now in
     let begun = c.begin.new.floor in
     let new = c.replay.new.floor in
