@@ -1,13 +1,15 @@
 -- A floor that is made, loaded, and on which attempts follow one another.
-use Rattle.std.proofs.Common.{◌≡◌, ◌≢◌, ℕ, ◌+◌, ◌*◌, ◌<◌, ◌≤◌, List, [], ◌∷◌, ◌++◌, length, take, Option, Some, None, refl, sym, ap, ◌∙◌, subst, arith}
+use Rattle.std.proofs.Common.{◌≡◌, ◌≢◌, ℕ, ◌+◌, ◌*◌, ◌<◌, ◌≤◌, List, [], ◌∷◌, length, take, Option, Some, None, refl, sym, ap, ◌∙◌, subst, arith}
 use Rattle.std.proofs.lemmas.List.{length-append, length-take}
 use Rattle.esa_laws.proofs.FinishLaws.{length-completed}
 use Rattle.esa_crew.proofs.Finishing.{begins_again, has_failed, is_over}
 use Rattle.esa_crew.specs.Posts.{AreMembers, ArePosts}
 use Rattle.esa_crew.specs.Replays.{IsReplayed}
+use Rattle.esa_floor.specs.Marks.{roots_of}
 use Rattle.esa_floor.specs.Parts.{Parts, begun_as}
 use Rattle.esa_floor.specs.Standing.{Stands, attempt_begun}
 use Rattle.esa_floor.specs.Working.{Working}
+use Rattle.esa_floor.specs.declared.floor.Roots.{Roots}
 use Rattle.esa_floor.specs.declared.turn.Stop.{Stop}
 use Rattle.esa_floor.proofs.Resting.{working}
 use Rattle.esa_params.specs.Sizes.{Sizes}
@@ -44,7 +46,7 @@ few_taken p d turns count =
     omega (arith, some, whole, long)
 
 -- the history of an attempt that was begun and replayed
-pub longer : {V : Type 0} (d : Draw) (n a : ℕ) (turns : List ℕ) (f begun new : Parts V) → begun ≡ begun_as f a → IsReplayed begun.plan d n turns begun new
+longer : {V : Type 0} (d : Draw) (n a : ℕ) (turns : List ℕ) (f begun new : Parts V) → begun ≡ begun_as f a → IsReplayed begun.plan d n turns begun new
     → length new.history ≤ length f.history + 1 + (length turns + f.plan.b * (f.plan.b + 3) * f.plan.workers)
 longer {V} d n a turns f begun new is replayed =
     let on = subst (λ (q : Sizes). IsReplayed q d n turns begun new) (ap (λ (x : Parts V). x.plan) is) replayed in
@@ -53,13 +55,24 @@ longer {V} d n a turns f begun new is replayed =
     let few = few_taken f.plan d turns on.count in
     omega (arith, taken, first, few)
 
--- a floor with room for all turns of an attempt has it when the attempt is begun
-pub room_begun : {V : Type 0} (a : ℕ) (turns : List ℕ) (f begun : Parts V) → begun ≡ begun_as f a
-    → length f.history + 1 + (length turns + f.plan.b * (f.plan.b + 3) * f.plan.workers) ≤ f.room
+-- a floor with room for all turns of an attempt has it when the attempt is begun, where most is how many these are
+pub room_begun : {V : Type 0} (a : ℕ) (turns : List ℕ) (f begun : Parts V) (plan : Sizes) (most entries : ℕ) → begun ≡ begun_as f a
+    → most ≡ length turns + plan.b * (plan.b + 3) * plan.workers → plan ≡ f.plan → length f.history + entries ≤ f.room → 1 + most ≤ entries
     → length begun.history + length (completed begun.plan turns) ≤ begun.room
-room_begun {V} a turns f begun is room =
+room_begun {V} a turns f begun plan most entries is value same room few =
+    let all = value ∙ ap (λ (q : Sizes). length turns + q.b * (q.b + 3) * q.workers) same in
     subst (λ (x : Parts V). length x.history + length (completed x.plan turns) ≤ x.room) (sym is)
-    (let long = length-completed f.plan turns in let one = length-append f.history (f.plan.workers ∷ []) in omega (arith, long, one, room))
+    (let long = length-completed f.plan turns in let one = length-append f.history (f.plan.workers ∷ []) in omega (arith, long, one, all, room, few))
+
+-- behind the turns of an attempt there is room for the entries that are left
+pub room_left : {V : Type 0} (d : Draw) (n a : ℕ) (turns : List ℕ) (f begun new : Parts V) (plan : Sizes) (most entries : ℕ) → begun ≡ begun_as f a
+    → IsReplayed begun.plan d n turns begun new → roots_of new ≡ roots_of begun → most ≡ length turns + plan.b * (plan.b + 3) * plan.workers → plan ≡ f.plan
+    → length f.history + entries ≤ f.room → length new.history + entries ≤ new.room + (1 + most)
+room_left {V} d n a turns f begun new plan most entries is replayed origin value same room =
+    let all = value ∙ ap (λ (q : Sizes). length turns + q.b * (q.b + 3) * q.workers) same in
+    let more = longer d n a turns f begun new is replayed in
+    let kept = ap (λ (r : Roots). r.room) origin ∙ ap (λ (x : Parts V). x.room) is in
+    omega (arith, all, more, kept, room)
 
 -- where the attempt at work has overflowed the stash, the next one may begin
 pub leads_on : {V : Type 0} (faults : V → ℕ) (p : Sizes) (ds : ℕ → Draw) (f : Parts V) (a j : ℕ) → Stands faults p ds f → f.attempt ≡ Some a → length f.history < f.room
