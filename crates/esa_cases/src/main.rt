@@ -1,4 +1,5 @@
 //! Runs the worked cases of its data over files and a printer in memory, and says of each whether all is as the case says.
+//! The external memory of a run is one in memory too, or a file of the machine.
 //!
 //! The words after the program's name are files of cases in the form of docs/TESTING.md. It prints a line for each case
 //! and each difference, and counts at the end. It ends with status 1 if anything differs, a file isn't in the form, or
@@ -12,8 +13,9 @@ mod run;
 
 use anyhow::{Result, ensure};
 use esa_case_file::{Case, read_cases};
-use run::run_case;
+use run::{DISK, run_case};
 use std::alloc::Global;
+use std::fs::File as HostFile;
 use std::rt::{Env, Files};
 use std::sync::Wait;
 use std::thread::Threads;
@@ -31,6 +33,7 @@ fn main(rt: HostRuntime) -> Result<()> {
     for file in env::args(&rt)?.skip(1) {
         run_file(&rt, &mut counts, file.as_str())?;
     }
+    let _ = fs::remove_file(&rt, DISK);
     let Counts { ok, differ } = counts;
     println!(rt; "{ok} cases are ok, {differ} differ")?;
     ensure!(differ == 0 && ok > 0, "not every case is as it says");
@@ -39,7 +42,7 @@ fn main(rt: HostRuntime) -> Result<()> {
 
 /// Runs the cases of a file.
 fn run_file(
-    rt: &(impl Files + Print + AllocGlobal + Threads + Wait + Sync),
+    rt: &(impl Files<File = HostFile> + Print + AllocGlobal + Clone + Drop + Threads + Wait + Sync),
     counts: &mut Counts,
     file: &str,
 ) -> Result<()> {

@@ -4,16 +4,21 @@ ghost use Rattle.std.specs.Prelude.{◌≡◌, [], IfOk};
 
 use crate::compare::{difference, difference_of_bytes};
 use crate::readers::{read, reading_of};
-use esa_case_file::{Call, Case, File, Run};
+use esa_case_file::{Call, Case, File, Held, Run};
 use esa_cli::{End, Status, esa, esa_plain, tell};
-use esa_device::{Flip, MemDevice, Recorder};
+use esa_device::{FileDevice, FixedDevice, Flip, MemDevice, Recorder};
 use esa_outside::{MemCabinet, MemPrinter};
 use std::alloc::{AllocError, Global};
+use std::fs::File as HostFile;
+use std::rt::Files;
 use std::sync::Wait;
 use std::thread::Threads;
 
+/// The file that has the external memory where a run has it in one. It is in the folder that the cases run in.
+pub const DISK: &str = "esa-device.bin";
+
 /// Runs a case, and says what differs from what it says.
-pub fn run_case<R: Threads + Wait + Sync>(
+pub fn run_case<R: Files<File = HostFile> + Clone + Drop + Threads + Wait + Sync>(
     rt: &R,
     alloc: Global,
     case: &Case,
@@ -25,8 +30,7 @@ pub fn run_case<R: Threads + Wait + Sync>(
     let mut differences = Vec::new(alloc);
     for (place, run) in case.runs.iter().enumerate() {
         let before = printer.printed().len();
-        let recorder = recorder_for(alloc, case)?;
-        let status = perform(rt, alloc, run, &mut cabinet, &mut printer, recorder).code();
+        let status = perform(rt, alloc, case, run, &mut cabinet, &mut printer)?.code();
         let printed = printer.printed().get(before..).unwrap_or_default();
         judge_run(alloc, &mut differences, place, run, status, printed)?;
     }
@@ -50,24 +54,68 @@ fn recorder_for(alloc: Global, case: &Case) -> Result<Recorder<MemDevice>, Alloc
     Ok(Recorder::make(alloc, MemDevice::make(fails, flips)))
 }
 
-/// Makes a call. Words that name no reader, and a file that isn't there, end with the status of a wrong command line.
-fn perform<R: Threads + Wait + Sync>(
+/// A recorder of a device that holds a block of its own.
+fn recorder_that_holds(alloc: Global, held: &Held) -> Result<Recorder<FixedDevice>, AllocError>
+    ensures { IfOk result (λ recorder. recorder.trace ≡ []) }
+{
+    let bytes = Vec::from_slice(alloc, &held.bytes)?;
+    Ok(Recorder::make(alloc, FixedDevice::make(held.slot, bytes)))
+}
+
+/// A recorder of a device in a file of the machine.
+fn recorder_on_disk<R: Files<File = HostFile> + Clone + Drop>(
     rt: &R,
     alloc: Global,
+) -> Result<Recorder<FileDevice<R>>, AllocError>
+    ensures { IfOk result (λ recorder. recorder.trace ≡ []) }
+{
+    let path = String::from_str(alloc, DISK)?;
+    Ok(Recorder::make(alloc, FileDevice::make(rt.clone()?, path)))
+}
+
+/// Makes a call. Words that name no reader, and a file that isn't there, end with the status of a wrong command line.
+fn perform<R: Files<File = HostFile> + Clone + Drop + Threads + Wait + Sync>(
+    rt: &R,
+    alloc: Global,
+    case: &Case,
     run: &Run,
     cabinet: &mut MemCabinet,
     printer: &mut MemPrinter,
-    recorder: Recorder<MemDevice>,
-) -> Status
-    requires { recorder.trace ≡ [] }
-{
+) -> Result<Status, AllocError> {
     match run.call {
-        Call::Program => esa_plain(alloc, &run.words, cabinet, printer, recorder).status,
-        Call::Crew => esa(rt, alloc, &run.words, cabinet, printer, recorder).status,
+        Call::Program => perform_in_memory(alloc, case, run, cabinet, printer),
+        Call::Crew => {
+            let recorder = recorder_for(alloc, case)?;
+            Ok(esa(rt, alloc, &run.words, cabinet, printer, recorder).status)
+        }
+        Call::Disk => {
+            let recorder = recorder_on_disk(rt, alloc)?;
+            Ok(esa_plain(alloc, &run.words, cabinet, printer, recorder).status)
+        }
         Call::Reader => match read_by(alloc, &run.words, cabinet) {
-            Status::Ok => Status::Ok,
-            status => tell(End::Stopped(status), printer),
+            Status::Ok => Ok(Status::Ok),
+            status => Ok(tell(End::Stopped(status), printer)),
         },
+    }
+}
+
+/// Makes a call of the program on one thread, over a device in memory.
+fn perform_in_memory(
+    alloc: Global,
+    case: &Case,
+    run: &Run,
+    cabinet: &mut MemCabinet,
+    printer: &mut MemPrinter,
+) -> Result<Status, AllocError> {
+    match &case.device_holds {
+        Some(held) => {
+            let recorder = recorder_that_holds(alloc, held)?;
+            Ok(esa_plain(alloc, &run.words, cabinet, printer, recorder).status)
+        }
+        None => {
+            let recorder = recorder_for(alloc, case)?;
+            Ok(esa_plain(alloc, &run.words, cabinet, printer, recorder).status)
+        }
     }
 }
 
