@@ -29,6 +29,9 @@ class Shuffle:
         self.envelope, self.item = (176, 137) if sizes.form == 1 else (304, 265)
         self.accesses = []
         self.turns = []
+        self.attempts = []
+        # for each access, how many turns of each attempt were made up to it
+        self.stored = []
 
     def places(self, bucket):
         """The places of a bucket."""
@@ -43,6 +46,7 @@ class Shuffle:
                        self.item * len(self.places(index))][region]
         nonce = number if region == INPUT else (attempt << 32) + number
         self.accesses.append((op, region, attempt, index, length, nonce))
+        self.stored.append([len(turns) for turns in self.turns])
 
     def load(self):
         """Writes the input."""
@@ -65,6 +69,7 @@ class Attempt:
         self.chunks = {}
         self.tails = {}
         self.written = 0
+        self.out = []
 
     def turn(self, state):
         """One turn of a worker."""
@@ -125,7 +130,7 @@ class Attempt:
     def compress(self):
         """The output, bucket by bucket, through the queue."""
         shuffle, sizes = self.shuffle, self.shuffle.sizes
-        queue, imported, out = deque(), 0, []
+        queue, imported, out = deque(), 0, self.out
         for bucket in range(sizes.b):
             while imported < min(bucket + sizes.w, sizes.b):
                 came = self.import_target(imported)
@@ -141,13 +146,20 @@ class Attempt:
         return out
 
 
-def run(sizes, coins, handed_in, scans):
-    """A shuffle up to its first good attempt, with the scans of its output if they are wanted."""
+def line_of(access):
+    """An access as a line that a case takes as it is."""
+    op, region, attempt, index, length, nonce = access
+    return f"  hex {op:02x} {region:02x} {attempt:02x} {index:08x} {length:08x} {nonce:016x}"
+
+
+def run(sizes, coins, handed_in, scans, tell=print):
+    """A shuffle up to its first good attempt, with two scans of its output if they are wanted. It tells each one's end."""
     shuffle = Shuffle(sizes)
     shuffle.load()
     for number, drawn in enumerate(coins):
         targets, *orders = [[int(digit) for digit in part] for part in drawn.split(":")]
         attempt = Attempt(shuffle, number, targets, orders)
+        shuffle.attempts.append(attempt)
         turns = []
         shuffle.turns.append(turns)
         try:
@@ -155,9 +167,9 @@ def run(sizes, coins, handed_in, scans):
             attempt.drain()
             places = attempt.compress()
         except Failed as failed:
-            print(f"attempt {number} {failed}")
+            tell(f"attempt {number} {failed}")
             continue
-        print(f"attempt {number} good: places", *places)
+        tell(f"attempt {number} good: places", *places)
         if scans:
             shuffle.scan(number)
             shuffle.scan(number)
@@ -180,8 +192,8 @@ def main():
     for turns in shuffle.turns:
         print("turns", *turns)
     print(len(shuffle.accesses), "accesses")
-    for op, region, attempt, index, length, nonce in shuffle.accesses:
-        print(f"  hex {op:02x} {region:02x} {attempt:02x} {index:08x} {length:08x} {nonce:016x}")
+    for access in shuffle.accesses:
+        print(line_of(access))
 
 
 if __name__ == "__main__":

@@ -52,6 +52,13 @@ pub struct Flip {
     pub mask: u8,
 }
 
+/// A block of the device that isn't what was written there: each read of this slot gives these bytes, if they have its length.
+#[derive(Drop)]
+pub struct Held {
+    pub slot: u32,
+    pub bytes: Vec<u8>,
+}
+
 /// Calls, one after another over the same files, and what they must leave.
 ///
 /// Each call has a device of its own, whose accesses are counted from 1 on. Of two files of one name the later counts. What no file of `left` names must be as it was before the first call.
@@ -70,6 +77,9 @@ pub struct Case {
     pub device_fails: Vec<u64>,
     /// The bits that flip in each call.
     pub device_flips: Vec<Flip>,
+    /// The block that the device holds in each call of the program on one thread over a device in memory. Then none of its
+    /// accesses fails, and no bit flips.
+    pub device_holds: Option<Held>,
     pub runs: Vec<Run>,
     /// The files that the calls must leave otherwise than they were before.
     pub left: Vec<File>,

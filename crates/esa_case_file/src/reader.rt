@@ -4,7 +4,7 @@ use crate::each::Each;
 use crate::piece::{add_piece, add_text};
 use crate::statement::{add_device, add_fails, split_word, status};
 use crate::wrong::{Mistake, Wrong};
-use crate::{Call, Case, File, Run};
+use crate::{Call, Case, File, Held, Run};
 use std::alloc::Global;
 
 /// The cases of a file, in its order, or its first line that isn't in the form.
@@ -44,6 +44,7 @@ enum Open {
     SettingFile,
     Case,
     CaseFile,
+    Held,
     Left,
 }
 
@@ -159,7 +160,7 @@ impl Reader {
             "left" => self.begin_left(rest),
             "cabinet" => add_fails(&mut self.case()?.cabinet_fails, rest),
             "printer" => add_fails(&mut self.case()?.printer_fails, rest),
-            "device" => add_device(self.case()?, rest),
+            "device" => self.add_to_device(rest),
             "run" => self.begin_run(Call::Program, rest),
             "crew" => self.begin_run(Call::Crew, rest),
             "disk" => self.begin_run(Call::Disk, rest),
@@ -218,6 +219,7 @@ impl Reader {
             printer_fails: Vec::new(self.alloc),
             device_fails: Vec::new(self.alloc),
             device_flips: Vec::new(self.alloc),
+            device_holds: None,
             runs: Vec::new(self.alloc),
             left: Vec::new(self.alloc),
         };
@@ -229,7 +231,10 @@ impl Reader {
     /// The case that is being read.
     fn case(&mut self) -> Result<&mut Case, Wrong> {
         match self.open {
-            Open::Case | Open::CaseFile | Open::Left => self.cases.last_mut().ok_or(Wrong::Place),
+            Open::Case | Open::CaseFile | Open::Held | Open::Left => self
+                .cases
+                .last_mut()
+                .ok_or(Wrong::Place),
             _ => Err(Wrong::Place),
         }
     }
@@ -285,6 +290,26 @@ impl Reader {
         Ok(())
     }
 
+    /// Adds what a line `device ..` says.
+    fn add_to_device(&mut self, rest: &str) -> Result<(), Wrong> {
+        match split_word(rest) {
+            ("holds", slot) => self.begin_held(slot),
+            _ => add_device(self.case()?, rest),
+        }
+    }
+
+    fn begin_held(&mut self, slot: &str) -> Result<(), Wrong> {
+        let bytes = Vec::new(self.alloc);
+        let slot = slot.parse::<u32>().or(Err(Wrong::Number))?;
+        let case = self.case()?;
+        if case.device_holds.is_some() {
+            return Err(Wrong::Twice);
+        }
+        case.device_holds = Some(Held { slot, bytes });
+        self.open = Open::Held;
+        Ok(())
+    }
+
     fn begin_run(&mut self, call: Call, words: &str) -> Result<(), Wrong> {
         let alloc = self.alloc;
         let mut run = Run {
@@ -323,6 +348,10 @@ impl Reader {
             Open::Bytes => append(&mut self.named, &bytes),
             Open::SettingFile | Open::CaseFile => append(self.files()?, &bytes),
             Open::Left => append(&mut self.case()?.left, &bytes),
+            Open::Held => match &mut self.case()?.device_holds {
+                Some(held) => Ok(held.bytes.extend_from_slice(&bytes)?),
+                None => Err(Wrong::Place),
+            },
             _ => Err(Wrong::Place),
         }
     }

@@ -4,9 +4,9 @@ ghost use Rattle.std.specs.Prelude.{◌≡◌, [], IfOk};
 
 use crate::compare::{difference, difference_of_bytes};
 use crate::readers::{read, reading_of};
-use esa_case_file::{Call, Case, File, Run};
+use esa_case_file::{Call, Case, File, Held, Run};
 use esa_cli::{End, Status, esa, esa_plain, tell};
-use esa_device::{FileDevice, Flip, MemDevice, Recorder};
+use esa_device::{FileDevice, FixedDevice, Flip, MemDevice, Recorder};
 use esa_outside::{MemCabinet, MemPrinter};
 use std::alloc::{AllocError, Global};
 use std::fs::File as HostFile;
@@ -54,6 +54,14 @@ fn recorder_for(alloc: Global, case: &Case) -> Result<Recorder<MemDevice>, Alloc
     Ok(Recorder::make(alloc, MemDevice::make(fails, flips)))
 }
 
+/// A recorder of a device that holds a block of its own.
+fn recorder_that_holds(alloc: Global, held: &Held) -> Result<Recorder<FixedDevice>, AllocError>
+    ensures { IfOk result (λ recorder. recorder.trace ≡ []) }
+{
+    let bytes = Vec::from_slice(alloc, &held.bytes)?;
+    Ok(Recorder::make(alloc, FixedDevice::make(held.slot, bytes)))
+}
+
 /// A recorder of a device in a file of the machine.
 fn recorder_on_disk<R: Files<File = HostFile> + Clone + Drop>(
     rt: &R,
@@ -75,10 +83,7 @@ fn perform<R: Files<File = HostFile> + Clone + Drop + Threads + Wait + Sync>(
     printer: &mut MemPrinter,
 ) -> Result<Status, AllocError> {
     match run.call {
-        Call::Program => {
-            let recorder = recorder_for(alloc, case)?;
-            Ok(esa_plain(alloc, &run.words, cabinet, printer, recorder).status)
-        }
+        Call::Program => perform_in_memory(alloc, case, run, cabinet, printer),
         Call::Crew => {
             let recorder = recorder_for(alloc, case)?;
             Ok(esa(rt, alloc, &run.words, cabinet, printer, recorder).status)
@@ -91,6 +96,26 @@ fn perform<R: Files<File = HostFile> + Clone + Drop + Threads + Wait + Sync>(
             Status::Ok => Ok(Status::Ok),
             status => Ok(tell(End::Stopped(status), printer)),
         },
+    }
+}
+
+/// Makes a call of the program on one thread, over a device in memory.
+fn perform_in_memory(
+    alloc: Global,
+    case: &Case,
+    run: &Run,
+    cabinet: &mut MemCabinet,
+    printer: &mut MemPrinter,
+) -> Result<Status, AllocError> {
+    match &case.device_holds {
+        Some(held) => {
+            let recorder = recorder_that_holds(alloc, held)?;
+            Ok(esa_plain(alloc, &run.words, cabinet, printer, recorder).status)
+        }
+        None => {
+            let recorder = recorder_for(alloc, case)?;
+            Ok(esa_plain(alloc, &run.words, cabinet, printer, recorder).status)
+        }
     }
 }
 
