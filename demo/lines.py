@@ -23,6 +23,8 @@ def of_json(number, line):
     moment, *rest = [json.loads(line)[field] for field in sys.argv[2:6]]
     return int(moment), *rest
 
+if (sys.argv[1:2], len(sys.argv)) not in [(["syslog"], 2), (["json"], 6)]:
+    sys.exit(__doc__)
 read, unread = {"syslog": syslog, "json": of_json}[sys.argv[1]], 0
 for number, line in enumerate(open(0, encoding="utf-8", errors="replace"), 1):
     try:
