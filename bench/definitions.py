@@ -1,5 +1,5 @@
 #!/usr/bin/env python3
-"""Prints the definitions that contracts rest on: each file of specs/ that these files cite, and those that it cites in turn.
+"""Prints the definitions that contracts rest on: each file of specs/ that they cite, and those that it cites in turn.
 
     bench/definitions.py [FILE..]     as crates/esa_cli/src/top.rt, which it takes where none is named
 

@@ -19,8 +19,8 @@ mkdir "$work/jobs" "$work/steps"
 cp "$demo/forward" "$demo"/*.json "$work/jobs"
 
 # The steps, in order: a command and its job.
-steps=("gen gen" "encode encode" "batch batch" "plan plan" "run run" "histogram count" "plan plan_tight" "analyse analyse"
-    "histogram histogram" "upgrade upgrade" "analyse upgrade")
+steps=("gen gen" "encode encode" "batch batch" "plan plan" "run run" "histogram count" "plan plan_tight"
+    "analyse analyse" "histogram histogram" "upgrade upgrade" "analyse upgrade")
 
 run_unproved() {
     echo "Building esa without proofs (demo/run.sh proved builds what the gate builds) .."
@@ -45,7 +45,7 @@ build_proved() {
 run_proved() {
     program=${1:-$top/crates/esa/out/esa}
     if [ $# = 0 ] && ! is_built; then
-        echo "Proving and building esa and the crates below it: an hour or so, where no gate proved them on this machine .."
+        echo "Proving and building esa and the crates below it: an hour or so where no gate did it on this machine .."
         build_proved
     fi
     for number in "${!steps[@]}"; do
@@ -84,7 +84,8 @@ story() {
     step 5
     echo '   The values that came out, without those of crowds that had fewer than 45 records.'
     step 6
-    echo '   The same with a stash and a queue that are too small: each attempt says what failed. docs/SIZING.md tells more.'
+    echo '   The same with a stash and a queue that are too small: each attempt says what failed.' \
+        'docs/SIZING.md tells more.'
     printf '\n   Where the analyser is another machine, it gets a forward file. Here is one that was made apart.\n'
     step 7
     echo '   Seven of the 400 envelopes had their tag changed, so they did not open; the others hold six values.'

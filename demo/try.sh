@@ -4,9 +4,9 @@
 #   demo/try.sh FOLDER COMMAND JOB [COMMAND JOB ..]
 #
 # as demo/try.sh roles/alone encode encode.json batch batch.json run run.json histogram count.json. The program is built
-# without proofs each time, in a minute or two, and looks at each of its accesses, so it is slow: for days of lines, and for
-# anything that matters, take the program that demo/run.sh proved leaves. The names in a job are taken from FOLDER. The
-# script ends with 1 where a command doesn't end with status 0; those behind it are called all the same.
+# without proofs each time, in a minute or two, and looks at each of its accesses, so it is slow: for days of lines, and
+# for anything that matters, take the program that demo/run.sh proved leaves. The names in a job are taken from FOLDER.
+# The script ends with 1 where a command doesn't end with status 0; those behind it are called all the same.
 set -euo pipefail
 [ $# -ge 3 ] && [ $(($# % 2)) = 1 ] || { sed -n '2,10s/^# \{0,1\}//p' "$0"; exit 2; }
 source "$(dirname "$0")/unproved.sh"

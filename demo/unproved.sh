@@ -1,7 +1,7 @@
 # What run.sh and try.sh share: a program that is built without proofs, and calls of it.
 
-# Reads a job and writes it, with the whole names of the files that it names, as they lie in a folder: the program runs in
-# a folder of its own.
+# Reads a job and writes it, with the whole names of the files that it names, as they lie in a folder: the program runs
+# in a folder of its own.
 with_whole_names() {
     python3 -c '
 import json, os, sys
