@@ -16,12 +16,25 @@ GROWTH, GROWTH_FROM, GROWTH_TO = 1.3, 10_000, 262_144
 PEAK, PEAK_FROM = 3, 100_000
 
 
+def is_built(path):
+    """Whether a program is there, as the gate leaves it, and no file that it may be built of is newer."""
+    if not os.path.exists(path):
+        return False
+    built = os.path.getmtime(path)
+    texts = [os.path.join(TOP, name) for name in ["crates.txt", "HANDLES"]]
+    for folder, folders, files in os.walk(os.path.join(TOP, "crates")):
+        folders[:] = [name for name in folders if name != "out"]
+        texts += [os.path.join(folder, name) for name in files if name.endswith((".rt", ".antt"))]
+    return all(os.path.getmtime(text) <= built for text in texts)
+
+
 def program(name):
-    """Proves and builds a program of the repository, and answers its path."""
+    """Answers the path of a program of the repository. Unless it is built already, it is proved and built here."""
     folder = os.path.join(TOP, "crates", name)
-    with tempfile.TemporaryFile() as log:
-        subprocess.run(["rt", "run"], cwd=folder, stdout=log, stderr=log, stdin=subprocess.DEVNULL)
     path = os.path.join(folder, "out", name)
+    if not is_built(path):
+        with tempfile.TemporaryFile() as log:
+            subprocess.run(["rt", "run"], cwd=folder, stdout=log, stderr=log, stdin=subprocess.DEVNULL)
     if not os.path.exists(path):
         raise SystemExit(f"{name} was not built: run rt run in crates/{name}")
     return path

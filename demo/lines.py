@@ -7,9 +7,9 @@
 
 A report line is a moment, a sender, a crowd and a value with tabs between. Of a syslog line the moment is its number,
 the crowd its program, and the value its message with `#` for each number, so that messages that differ in numbers
-alone count as one. Of a JSON line the moment has to be a whole number. Tabs become spaces, bytes that a sender can't have
-`_`, senders are cut at 64 bytes and values at 62, which is what a report of form One has room for. Lines that it can't
-read are left out, and their number is said at the end.
+alone count as one. Of a JSON line the moment has to be a whole number. Tabs become spaces, bytes that a sender can't
+have `_`, senders are cut at 64 bytes and values at 62, which is what a report of form One has room for. Lines that it
+can't read are left out, and their number is said at the end.
 """
 import json, re, sys
 
@@ -23,6 +23,8 @@ def of_json(number, line):
     moment, *rest = [json.loads(line)[field] for field in sys.argv[2:6]]
     return int(moment), *rest
 
+if (sys.argv[1:2], len(sys.argv)) not in [(["syslog"], 2), (["json"], 6)]:
+    sys.exit(__doc__)
 read, unread = {"syslog": syslog, "json": of_json}[sys.argv[1]], 0
 for number, line in enumerate(open(0, encoding="utf-8", errors="replace"), 1):
     try:

@@ -1,49 +1,57 @@
 #!/usr/bin/env bash
 # Shows the pipeline: made up reports become submissions and a batch, and sealed reports become a database.
 #
-#   demo/run.sh          a first look, in about a minute: the program is built without proofs
-#   demo/run.sh proved   the program as the gate builds it: every crate below it is proved first, which can take half
-#                        an hour the first time
+#   demo/run.sh                  a first look, in a minute or two: the program is built without proofs
+#   demo/run.sh proved           the program as the gate builds it, which then is crates/esa/out/esa. After a gate in
+#                                this copy of the repository it is there; after one in another copy on this machine its
+#                                proofs are kept. Else every crate below it is proved first, which takes an hour or so
+#   demo/run.sh proved PROGRAM   a program that is built already
 #
 # Either way the jobs of this folder run in a folder of their own, and what they print and write is compared with
 # demo/transcript.txt. The script ends with 1 where anything differs.
 set -euo pipefail
 demo=$(cd "$(dirname "$0")" && pwd)
-crate=$demo/../crates/esa
+top=$(dirname "$demo")
+source "$demo/unproved.sh"
 work=$(mktemp -d)
 trap 'rm -rf "$work"' EXIT
 mkdir "$work/jobs" "$work/steps"
-cp "$demo/forward" "$work/jobs"
-# A job names its files as they lie beside it. The program runs elsewhere here, so they get their whole names.
-for job in "$demo"/*.json; do
-    sed -E "s#\"(keys|input|output|trace|turns_out)\": \"#&$work/jobs/#g" "$job" >"$work/jobs/${job##*/}"
-done
+cp "$demo/forward" "$demo"/*.json "$work/jobs"
 
 # The steps, in order: a command and its job.
-steps=("gen gen" "encode encode" "batch batch" "plan plan" "run run" "histogram count" "plan plan_tight" "analyse analyse"
-    "histogram histogram" "upgrade upgrade" "analyse upgrade")
+steps=("gen gen" "encode encode" "batch batch" "plan plan" "run run" "histogram count" "plan plan_tight"
+    "analyse analyse" "histogram histogram" "upgrade upgrade" "analyse upgrade")
 
 run_unproved() {
     echo "Building esa without proofs (demo/run.sh proved builds what the gate builds) .."
-    for number in "${!steps[@]}"; do
-        read -r command job <<<"${steps[number]}"
-        : >"$work/steps/$number"
-        printf '%s\n' "$command" "$work/jobs/$job.json" >"$work/steps/$number.args"
-    done
-    (cd "$crate" && rt try --cases "$work/steps") >"$work/said" 2>"$work/log" || { tail -n 20 "$work/log"; exit 1; }
-    awk -v to="$work/steps" '/^== [0-9]+$/ { file = to "/" $2 ".text"; printf "" >file; next } { print >file }' "$work/said"
-    sed -nE "s#^case=([0-9]+) .* status=([0-9]+) .*#\1 \2#p" "$work/log" |
-        while read -r number status; do echo "$status" >"$work/steps/$number.status"; done
+    call_unproved "$work/jobs" "$work/steps" "${steps[@]/%/.json}" || exit 1
+}
+
+# Whether the program is there, and nothing that it may be built of is newer.
+is_built() {
+    [ -x "$program" ] && [ -z "$(find "$top/crates.txt" "$top/HANDLES" "$top/crates" -path '*/out' -prune -o \
+        -newer "$program" \( -name '*.rt' -o -name '*.antt' -o -name crates.txt -o -name HANDLES \) -print -quit)" ]
+}
+
+# Builds the program as the gate does, in a copy of its crate and those below it without their edits. What a gate proved
+# of the same files on this machine is taken from there.
+build_proved() {
+    "$demo/copy.py" esa "$work/copy"
+    (cd "$work/copy" && rt ci) 2>&1 | tee "$work/log" | grep -E --line-buffered '^rt: \S+ (is kept|proved)' || true
+    mkdir -p "${program%/*}"
+    cp "$work/copy/crates/esa/out/esa" "$program" || { tail -n 20 "$work/log"; exit 1; }
 }
 
 run_proved() {
-    echo "Proving and building esa: the first time every crate below it is proved, which can take half an hour .."
-    (cd "$crate" && rt run -- histogram "$work/jobs/none.json") >"$work/log" 2>&1 || true
-    [ -x "$crate/out/esa" ] || { tail -n 20 "$work/log"; exit 1; }
+    program=${1:-$top/crates/esa/out/esa}
+    if [ $# = 0 ] && ! is_built; then
+        echo "Proving and building esa and the crates below it: an hour or so where no gate did it on this machine .."
+        build_proved
+    fi
     for number in "${!steps[@]}"; do
         read -r command job <<<"${steps[number]}"
         status=0
-        (cd "$work" && "$crate/out/esa" "$command" "$work/jobs/$job.json") >"$work/steps/$number.text" || status=$?
+        (cd "$work/jobs" && "$program" "$command" "$job.json") >"$work/steps/$number.text" || status=$?
         echo "$status" >"$work/steps/$number.status"
     done
 }
@@ -76,7 +84,8 @@ story() {
     step 5
     echo '   The values that came out, without those of crowds that had fewer than 45 records.'
     step 6
-    echo '   The same with a stash and a queue that are too small: each attempt says what failed. docs/SIZING.md tells more.'
+    echo '   The same with a stash and a queue that are too small: each attempt says what failed.' \
+        'docs/SIZING.md tells more.'
     printf '\n   Where the analyser is another machine, it gets a forward file. Here is one that was made apart.\n'
     step 7
     echo '   Seven of the 400 envelopes had their tag changed, so they did not open; the others hold six values.'
@@ -92,8 +101,8 @@ story() {
 
 case "${1:-}" in
 "") run_unproved ;;
-proved) run_proved ;;
-*) sed -n '2,10s/^# \{0,1\}//p' "$0"; exit 2 ;;
+proved) run_proved ${2:+"$(realpath "$2")"} ;;
+*) sed -n '2,12s/^# \{0,1\}//p' "$0"; exit 2 ;;
 esac
 story >"$work/transcript"
 cat "$work/transcript"
