@@ -88,7 +88,7 @@ fn open<G: Told, V: Device, C: Coins>(
 }
 
 /// Takes the memory of a run and runs, where the draws are told. Each worker passes the gate after each of its turns.
-fn run_told<
+pub(crate) fn run_told<
     G: Told + Send + Drop,
     V: Device + Send + Drop,
     C: Coins + Sync,

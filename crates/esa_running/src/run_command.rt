@@ -1,8 +1,7 @@
 //! The commands run and shuffle: a batch is shuffled, and what comes out of it is counted or handed on.
 
-ghost use Rattle.std.specs.Prelude.{◌≡◌, ◌≢◌, ◌∷◌, ◌+◌, ◌≤◌, ℕ, List, [], length, false, Some, IfOk, IfErr, MatchResult};
+ghost use Rattle.std.specs.Prelude.{◌≡◌, ◌≢◌, ◌∷◌, ◌+◌, ◌≤◌, ℕ, List, [], length, Some, IfOk, IfErr, MatchResult};
 ghost use Rattle.esa_header.specs.Header.{header_length};
-ghost use Rattle.esa_job.specs.Refusal.{runs_crew};
 ghost use Rattle.esa_job.specs.Seen.{request_of};
 ghost use Rattle.esa_params.specs.Form.{envelope_length};
 ghost use Rattle.esa_params.specs.Slots.{greatest_trace};
@@ -19,13 +18,13 @@ ghost use Rattle.esa_running.specs.Purpose.{command_for};
 ghost use Rattle.esa_running.specs.Run.{IsInside, run_steps};
 ghost use Rattle.esa_running.specs.RunEnded.{HasActed, HasWorked, IsIdle, history_in};
 ghost use Rattle.esa_running.specs.RunOwes.{EndsShuffle, RunOwes};
-ghost use Rattle.esa_running.specs.RunTaken.{IsTaken, run_taken};
+ghost use Rattle.esa_running.specs.RunTaken.{IsTaken, MayRun, run_taken};
 ghost use Rattle.esa_running.specs.Wanted.{block_keys, outer_keys, turns_by, HasFewAttempts};
 
 use crate::ending::work_ended;
 use crate::input::{RunInput, take_run};
 use crate::purpose::Purpose;
-use crate::shuffle_mode::shuffle_by_turns;
+use crate::shuffler::Shuffler;
 use crate::working::{Store, store_for};
 use esa_batcher::BatchFile;
 use esa_command::settle_failed;
@@ -48,13 +47,15 @@ pub struct Ended<V: Device> {
 }
 
 /// Shuffles the records of a batch file. Where there is no memory for that nothing was done.
-fn shuffle_records<K: Cabinet, V: Device>(
+fn shuffle_records<S: Shuffler, K: Cabinet, V: Device + Send + Drop>(
+    by: &S,
     alloc: Global,
     batch: &mut BatchFile<'_, '_, K>,
     recorder: Recorder<V>,
     input: &RunInput,
 ) -> Result<Ran<V>, NoRun<V>>
-    requires mode { runs_crew (request_of input.now.job) ≡ false }
+    requires can { S.able by.now }
+    requires mode { MayRun S.crews input.now }
     requires taken { IsTaken input.now }
     requires name { batch.old.name.now ≡ name_of (request_of input.now.job) JobField.Input }
     requires start { batch.old.start ≡ header_length input.now.batch.form }
@@ -79,17 +80,19 @@ fn shuffle_records<K: Cabinet, V: Device>(
     ensures given_back { IfErr result (λ none. none.recorder ≡ recorder) }
     ensures untouched { IfErr result (λ _. batch.new ≡ batch.old) }
 {
-    shuffle_by_turns(alloc, input, batch, recorder)
+    by.shuffle(alloc, input, batch, recorder)
 }
 
 /// Shuffles a batch. Where there is no memory for that nothing was done.
-fn shuffle_batch<K: Cabinet, V: Device>(
+fn shuffle_batch<S: Shuffler, K: Cabinet, V: Device + Send + Drop>(
+    by: &S,
     alloc: Global,
     cabinet: &mut K,
     recorder: Recorder<V>,
     input: &RunInput,
 ) -> Result<Ran<V>, NoRun<V>>
-    requires mode { runs_crew (request_of input.now.job) ≡ false }
+    requires can { S.able by.now }
+    requires mode { MayRun S.crews input.now }
     requires taken { IsTaken input.now }
     requires inside { IsInside (K.told cabinet.old) (name_of (request_of input.now.job) JobField.Input) input.now.batch }
     requires ready { recorder.plan ≡ Some input.now.plan }
@@ -115,7 +118,7 @@ fn shuffle_batch<K: Cabinet, V: Device>(
         size: input.plan.form().envelope(),
         count: input.batch.count,
     };
-    shuffle_records(alloc, &mut batch, recorder, input)
+    shuffle_records(by, alloc, &mut batch, recorder, input)
 }
 
 /// Does the work of a command whose batch was shuffled.
@@ -168,7 +171,8 @@ fn end_ran<K: Cabinet, P: Printer, V: Device>(
 }
 
 /// Shuffles a batch and does the work of its command, with a recorder that is ready for it.
-fn run_ready<K: Cabinet, P: Printer, V: Device>(
+fn run_ready<S: Shuffler, K: Cabinet, P: Printer, V: Device + Send + Drop>(
+    by: &S,
     alloc: Global,
     cabinet: &mut K,
     printer: &mut P,
@@ -176,7 +180,8 @@ fn run_ready<K: Cabinet, P: Printer, V: Device>(
     input: &RunInput,
     store: Store,
 ) -> Result<Ended<V>, NoRun<V>>
-    requires mode { runs_crew (request_of input.now.job) ≡ false }
+    requires can { S.able by.now }
+    requires mode { MayRun S.crews input.now }
     requires taken { IsTaken input.now }
     requires command { (request_of input.now.job).command ≡ command_for (purpose_of store.outlet) }
     requires inside { IsInside (K.told cabinet.old) (name_of (request_of input.now.job) JobField.Input) input.now.batch }
@@ -191,14 +196,15 @@ fn run_ready<K: Cabinet, P: Printer, V: Device>(
         (stand P.told P.faults P.heard printer.old) (stand P.told P.faults P.heard printer.new) ended.recorder (history_in ended.history) ended.end)
         (λ none. (none.recorder.trace ≡ []) × (cabinet.new ≡ cabinet.old) × (printer.new ≡ printer.old)) }
 {
-    match shuffle_batch(alloc, cabinet, recorder, input) {
+    match shuffle_batch(by, alloc, cabinet, recorder, input) {
         Ok(ran) => Ok(end_ran(cabinet, printer, input, ran, store)),
         Err(none) => Err(none),
     }
 }
 
 /// Does what is asked for. Where there is no memory for that nothing was done.
-fn act<K: Cabinet, P: Printer, V: Device>(
+fn act<S: Shuffler, K: Cabinet, P: Printer, V: Device + Send + Drop>(
+    by: &S,
     alloc: Global,
     purpose: Purpose,
     cabinet: &mut K,
@@ -206,7 +212,8 @@ fn act<K: Cabinet, P: Printer, V: Device>(
     mut recorder: Recorder<V>,
     input: &RunInput,
 ) -> Result<Ended<V>, NoRun<V>>
-    requires mode { runs_crew (request_of input.now.job) ≡ false }
+    requires can { S.able by.now }
+    requires mode { MayRun S.crews input.now }
     requires taken { IsTaken input.now }
     requires command { (request_of input.now.job).command ≡ command_for purpose }
     requires inside { IsInside (K.told cabinet.old) (name_of (request_of input.now.job) JobField.Input) input.now.batch }
@@ -221,7 +228,7 @@ fn act<K: Cabinet, P: Printer, V: Device>(
         return Err(NoRun { recorder });
     };
     match recorder.ready(&input.plan) {
-        Ok(()) => run_ready(alloc, cabinet, printer, recorder, input, store),
+        Ok(()) => run_ready(by, alloc, cabinet, printer, recorder, input, store),
         Err(LayRefused::OutOfMemory) => Err(NoRun { recorder }),
         Err(LayRefused::Failed) => Ok(Ended {
             end: settle_failed(Status::DeviceFault(DeviceAt::Lay), Ok(()), printer),
@@ -231,10 +238,11 @@ fn act<K: Cabinet, P: Printer, V: Device>(
     }
 }
 
-/// Shuffles a batch on one thread for a purpose. For run it counts the values of the records that are kept and writes their
-/// database; for shuffle it writes these records as a forward file. Then it writes how the shuffle went, where the job names
-/// files for that, and prints its numbers. A job that asks for a crew is refused.
-pub fn run<K: Cabinet, P: Printer, V: Device>(
+/// Has a batch shuffled for a purpose. For run it counts the values of the records that are kept and writes their database; for
+/// shuffle it writes these records as a forward file. Then it writes how the shuffle went, where the job names files for that,
+/// and prints its numbers. A job that asks for a crew is refused where the one who shuffles has none.
+pub fn run<S: Shuffler, K: Cabinet, P: Printer, V: Device + Send + Drop>(
+    by: &S,
     alloc: Global,
     purpose: Purpose,
     cabinet: &mut K,
@@ -242,14 +250,15 @@ pub fn run<K: Cabinet, P: Printer, V: Device>(
     recorder: Recorder<V>,
     name: &str,
 ) -> Ended<V>
-    requires { recorder.trace ≡ [] }
+    requires can { S.able by.now }
+    requires trace { recorder.trace ≡ [] }
     ensures { EndsBy (IsIdle result.recorder (history_in result.history))
-        (RunOwes purpose V.told V.faults (V.faults recorder.device) result.recorder (history_in result.history)) (run_steps (command_for purpose) false name.now)
+        (RunOwes purpose V.told V.faults (V.faults recorder.device) result.recorder (history_in result.history)) (run_steps (command_for purpose) S.crews name.now)
         (stand K.told K.faults K.heard cabinet.old) (stand K.told K.faults K.heard cabinet.new)
         (stand P.told P.faults P.heard printer.old) (stand P.told P.faults P.heard printer.new) result.end }
 {
-    match take_run(alloc, cabinet, purpose.command(), false, name) {
-        Ok(input) => match act(alloc, purpose, cabinet, printer, recorder, &input) {
+    match take_run(alloc, cabinet, purpose.command(), by.may_crew(), name) {
+        Ok(input) => match act(by, alloc, purpose, cabinet, printer, recorder, &input) {
             Ok(ended) => ended,
             Err(none) => Ended {
                 end: End::Stopped(Status::OutOfMemory),
