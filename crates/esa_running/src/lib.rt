@@ -10,12 +10,12 @@ mod outputs;
 mod purpose;
 mod run_command;
 mod shuffle_mode;
-mod shuffler;
 mod stored_turns;
 mod taking;
+mod threaded;
 mod working;
 
 pub use input::{RunInput, take_run};
 pub use purpose::Purpose;
 pub use run_command::{Ended, run};
-pub use shuffler::{OneThread, Shuffler, Threaded};
+pub use threaded::run_threaded;

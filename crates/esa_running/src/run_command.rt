@@ -1,7 +1,8 @@
 //! The commands run and shuffle: a batch is shuffled, and what comes out of it is counted or handed on.
 
-ghost use Rattle.std.specs.Prelude.{◌≡◌, ◌≢◌, ◌∷◌, ◌+◌, ◌≤◌, ℕ, List, [], length, Some, IfOk, IfErr, MatchResult};
+ghost use Rattle.std.specs.Prelude.{◌≡◌, ◌≢◌, ◌∷◌, ◌+◌, ◌≤◌, ℕ, List, [], length, false, Some, IfOk, IfErr, MatchResult};
 ghost use Rattle.esa_header.specs.Header.{header_length};
+ghost use Rattle.esa_job.specs.Refusal.{runs_crew};
 ghost use Rattle.esa_job.specs.Seen.{request_of};
 ghost use Rattle.esa_params.specs.Form.{envelope_length};
 ghost use Rattle.esa_params.specs.Slots.{greatest_trace};
@@ -18,13 +19,13 @@ ghost use Rattle.esa_running.specs.Purpose.{command_for};
 ghost use Rattle.esa_running.specs.Run.{IsInside, run_steps};
 ghost use Rattle.esa_running.specs.RunEnded.{HasActed, HasWorked, IsIdle, history_in};
 ghost use Rattle.esa_running.specs.RunOwes.{EndsShuffle, RunOwes};
-ghost use Rattle.esa_running.specs.RunTaken.{IsTaken, MayRun, run_taken};
+ghost use Rattle.esa_running.specs.RunTaken.{IsTaken, run_taken};
 ghost use Rattle.esa_running.specs.Wanted.{block_keys, outer_keys, turns_by, HasFewAttempts};
 
 use crate::ending::work_ended;
 use crate::input::{RunInput, take_run};
 use crate::purpose::Purpose;
-use crate::shuffler::Shuffler;
+use crate::shuffle_mode::shuffle_by_turns;
 use crate::working::{Store, store_for};
 use esa_batcher::BatchFile;
 use esa_command::settle_failed;
@@ -47,15 +48,13 @@ pub struct Ended<V: Device> {
 }
 
 /// Shuffles the records of a batch file. Where there is no memory for that nothing was done.
-fn shuffle_records<S: Shuffler, K: Cabinet, V: Device + Send + Drop>(
-    by: &S,
+fn shuffle_records<K: Cabinet, V: Device>(
     alloc: Global,
     batch: &mut BatchFile<'_, '_, K>,
     recorder: Recorder<V>,
     input: &RunInput,
 ) -> Result<Ran<V>, NoRun<V>>
-    requires can { S.able by.now }
-    requires mode { MayRun S.crews input.now }
+    requires mode { runs_crew (request_of input.now.job) ≡ false }
     requires taken { IsTaken input.now }
     requires name { batch.old.name.now ≡ name_of (request_of input.now.job) JobField.Input }
     requires start { batch.old.start ≡ header_length input.now.batch.form }
@@ -80,19 +79,17 @@ fn shuffle_records<S: Shuffler, K: Cabinet, V: Device + Send + Drop>(
     ensures given_back { IfErr result (λ none. none.recorder ≡ recorder) }
     ensures untouched { IfErr result (λ _. batch.new ≡ batch.old) }
 {
-    by.shuffle(alloc, input, batch, recorder)
+    shuffle_by_turns(alloc, input, batch, recorder)
 }
 
 /// Shuffles a batch. Where there is no memory for that nothing was done.
-fn shuffle_batch<S: Shuffler, K: Cabinet, V: Device + Send + Drop>(
-    by: &S,
+fn shuffle_batch<K: Cabinet, V: Device>(
     alloc: Global,
     cabinet: &mut K,
     recorder: Recorder<V>,
     input: &RunInput,
 ) -> Result<Ran<V>, NoRun<V>>
-    requires can { S.able by.now }
-    requires mode { MayRun S.crews input.now }
+    requires mode { runs_crew (request_of input.now.job) ≡ false }
     requires taken { IsTaken input.now }
     requires inside { IsInside (K.told cabinet.old) (name_of (request_of input.now.job) JobField.Input) input.now.batch }
     requires ready { recorder.plan ≡ Some input.now.plan }
@@ -118,11 +115,11 @@ fn shuffle_batch<S: Shuffler, K: Cabinet, V: Device + Send + Drop>(
         size: input.plan.form().envelope(),
         count: input.batch.count,
     };
-    shuffle_records(by, alloc, &mut batch, recorder, input)
+    shuffle_records(alloc, &mut batch, recorder, input)
 }
 
 /// Does the work of a command whose batch was shuffled.
-fn end_ran<K: Cabinet, P: Printer, V: Device>(
+pub(crate) fn end_ran<K: Cabinet, P: Printer, V: Device>(
     cabinet: &mut K,
     printer: &mut P,
     input: &RunInput,
@@ -171,8 +168,7 @@ fn end_ran<K: Cabinet, P: Printer, V: Device>(
 }
 
 /// Shuffles a batch and does the work of its command, with a recorder that is ready for it.
-fn run_ready<S: Shuffler, K: Cabinet, P: Printer, V: Device + Send + Drop>(
-    by: &S,
+fn run_ready<K: Cabinet, P: Printer, V: Device>(
     alloc: Global,
     cabinet: &mut K,
     printer: &mut P,
@@ -180,8 +176,7 @@ fn run_ready<S: Shuffler, K: Cabinet, P: Printer, V: Device + Send + Drop>(
     input: &RunInput,
     store: Store,
 ) -> Result<Ended<V>, NoRun<V>>
-    requires can { S.able by.now }
-    requires mode { MayRun S.crews input.now }
+    requires mode { runs_crew (request_of input.now.job) ≡ false }
     requires taken { IsTaken input.now }
     requires command { (request_of input.now.job).command ≡ command_for (purpose_of store.outlet) }
     requires inside { IsInside (K.told cabinet.old) (name_of (request_of input.now.job) JobField.Input) input.now.batch }
@@ -196,15 +191,14 @@ fn run_ready<S: Shuffler, K: Cabinet, P: Printer, V: Device + Send + Drop>(
         (stand P.told P.faults P.heard printer.old) (stand P.told P.faults P.heard printer.new) ended.recorder (history_in ended.history) ended.end)
         (λ none. (none.recorder.trace ≡ []) × (cabinet.new ≡ cabinet.old) × (printer.new ≡ printer.old)) }
 {
-    match shuffle_batch(by, alloc, cabinet, recorder, input) {
+    match shuffle_batch(alloc, cabinet, recorder, input) {
         Ok(ran) => Ok(end_ran(cabinet, printer, input, ran, store)),
         Err(none) => Err(none),
     }
 }
 
 /// Does what is asked for. Where there is no memory for that nothing was done.
-fn act<S: Shuffler, K: Cabinet, P: Printer, V: Device + Send + Drop>(
-    by: &S,
+pub(crate) fn act<K: Cabinet, P: Printer, V: Device>(
     alloc: Global,
     purpose: Purpose,
     cabinet: &mut K,
@@ -212,8 +206,7 @@ fn act<S: Shuffler, K: Cabinet, P: Printer, V: Device + Send + Drop>(
     mut recorder: Recorder<V>,
     input: &RunInput,
 ) -> Result<Ended<V>, NoRun<V>>
-    requires can { S.able by.now }
-    requires mode { MayRun S.crews input.now }
+    requires mode { runs_crew (request_of input.now.job) ≡ false }
     requires taken { IsTaken input.now }
     requires command { (request_of input.now.job).command ≡ command_for purpose }
     requires inside { IsInside (K.told cabinet.old) (name_of (request_of input.now.job) JobField.Input) input.now.batch }
@@ -228,7 +221,7 @@ fn act<S: Shuffler, K: Cabinet, P: Printer, V: Device + Send + Drop>(
         return Err(NoRun { recorder });
     };
     match recorder.ready(&input.plan) {
-        Ok(()) => run_ready(by, alloc, cabinet, printer, recorder, input, store),
+        Ok(()) => run_ready(alloc, cabinet, printer, recorder, input, store),
         Err(LayRefused::OutOfMemory) => Err(NoRun { recorder }),
         Err(LayRefused::Failed) => Ok(Ended {
             end: settle_failed(Status::DeviceFault(DeviceAt::Lay), Ok(()), printer),
@@ -238,11 +231,10 @@ fn act<S: Shuffler, K: Cabinet, P: Printer, V: Device + Send + Drop>(
     }
 }
 
-/// Has a batch shuffled for a purpose. For run it counts the values of the records that are kept and writes their database; for
-/// shuffle it writes these records as a forward file. Then it writes how the shuffle went, where the job names files for that,
-/// and prints its numbers. A job that asks for a crew is refused where the one who shuffles has none.
-pub fn run<S: Shuffler, K: Cabinet, P: Printer, V: Device + Send + Drop>(
-    by: &S,
+/// Shuffles a batch on one thread for a purpose. For run it counts the values of the records that are kept and writes their
+/// database; for shuffle it writes these records as a forward file. Then it writes how the shuffle went, where the job names
+/// files for that, and prints its numbers. A job that asks for a crew is refused.
+pub fn run<K: Cabinet, P: Printer, V: Device>(
     alloc: Global,
     purpose: Purpose,
     cabinet: &mut K,
@@ -250,15 +242,14 @@ pub fn run<S: Shuffler, K: Cabinet, P: Printer, V: Device + Send + Drop>(
     recorder: Recorder<V>,
     name: &str,
 ) -> Ended<V>
-    requires can { S.able by.now }
-    requires trace { recorder.trace ≡ [] }
+    requires { recorder.trace ≡ [] }
     ensures { EndsBy (IsIdle result.recorder (history_in result.history))
-        (RunOwes purpose V.told V.faults (V.faults recorder.device) result.recorder (history_in result.history)) (run_steps (command_for purpose) S.crews name.now)
+        (RunOwes purpose V.told V.faults (V.faults recorder.device) result.recorder (history_in result.history)) (run_steps (command_for purpose) false name.now)
         (stand K.told K.faults K.heard cabinet.old) (stand K.told K.faults K.heard cabinet.new)
         (stand P.told P.faults P.heard printer.old) (stand P.told P.faults P.heard printer.new) result.end }
 {
-    match take_run(alloc, cabinet, purpose.command(), by.may_crew(), name) {
-        Ok(input) => match act(by, alloc, purpose, cabinet, printer, recorder, &input) {
+    match take_run(alloc, cabinet, purpose.command(), false, name) {
+        Ok(input) => match act(alloc, purpose, cabinet, printer, recorder, &input) {
             Ok(ended) => ended,
             Err(none) => Ended {
                 end: End::Stopped(Status::OutOfMemory),

@@ -1,6 +1,7 @@
 use Rattle.std.proofs.Common.{Ok, Err, refl, sym, subst}
-use Rattle.std.specs.Prelude.{Bool, []}
-use Rattle.esa_job.specs.declared.command.Command.{Command}
+use Rattle.std.specs.Prelude.{false, []}
+use Rattle.esa_job.specs.Refusal.{runs_crew}
+use Rattle.esa_job.specs.Seen.{request_of}
 use Rattle.esa_refusal.specs.declared.stop.Stop.TheVariants.{OutOfMemory}
 use Rattle.esa_refusal.specs.declared.status.End.TheVariants.{Stopped}
 use Rattle.esa_refusal.specs.declared.status.Status.TheVariants as status
@@ -13,7 +14,8 @@ use Rattle.esa_running.specs.Purpose.{command_for}
 use Rattle.esa_running.specs.Run.{run_steps}
 use Rattle.esa_running.specs.RunEnded.{IsIdle, history_in}
 use Rattle.esa_running.specs.RunOwes.{RunOwes}
-use Rattle.esa_running.specs.RunTaken.{MayRun, run_taken}
+use Rattle.esa_running.specs.RunTaken.{run_taken}
+use Rattle.esa_running.proofs.Modes.{not_allowed}
 use Rattle.esa_running.proofs.run_command.run.Goals as goal
 
 pub returns-in-Ok-act : goal.returns-in-Ok-act
@@ -21,10 +23,10 @@ returns-in-Ok-act g c =
     let cabinet = stand g.K.Cabinet.told g.K.Cabinet.faults g.K.Cabinet.heard in
     let printer = stand g.P.Printer.told g.P.Printer.faults g.P.Printer.heard in
     let before = g.V.Device.faults c.args.recorder.device in
-    let judged = subst (λ (x : Command × Bool). Judged 0 6 run_taken (run_steps x.0 x.1 c.args.name.now) (cabinet c.args.cabinet.now) (cabinet c.take_run.new.cabinet) (Ok c.in-Ok.input)) (λ i. (c.command.ensures i, c.may_crew.ensures i)) c.in-Ok.ensures.judged in
+    let judged = subst (λ command. Judged 0 6 run_taken (run_steps command false c.args.name.now) (cabinet c.args.cabinet.now) (cabinet c.take_run.new.cabinet) (Ok c.in-Ok.input)) c.command.ensures c.in-Ok.ensures.judged in
     let ended = c.in-Ok-act.ended in
     let done = c.in-Ok-act.ensures in
-    ends_act run_taken (IsIdle ended.recorder (history_in ended.history)) (RunOwes c.args.purpose g.V.Device.told g.V.Device.faults before ended.recorder (history_in ended.history)) (run_steps (command_for c.args.purpose) g.S.Shuffler.crews c.args.name.now)
+    ends_act run_taken (IsIdle ended.recorder (history_in ended.history)) (RunOwes c.args.purpose g.V.Device.told g.V.Device.faults before ended.recorder (history_in ended.history)) (run_steps (command_for c.args.purpose) false c.args.name.now)
     (cabinet c.args.cabinet.now) (cabinet c.take_run.new.cabinet) done.acted (cabinet c.act.new.cabinet) (printer c.args.printer.now) (printer c.act.new.printer) ended.end c.in-Ok.input done.work
     judged done.owes done.settles
 
@@ -33,12 +35,12 @@ returns-in-Ok g c =
     let cabinet = stand g.K.Cabinet.told g.K.Cabinet.faults g.K.Cabinet.heard in
     let printer = stand g.P.Printer.told g.P.Printer.faults g.P.Printer.heard in
     let before = g.V.Device.faults c.args.recorder.device in
-    let judged = subst (λ (x : Command × Bool). Judged 0 6 run_taken (run_steps x.0 x.1 c.args.name.now) (cabinet c.args.cabinet.now) (cabinet c.take_run.new.cabinet) (Ok c.in-Ok.input)) (λ i. (c.command.ensures i, c.may_crew.ensures i)) c.in-Ok.ensures.judged in
+    let judged = subst (λ command. Judged 0 6 run_taken (run_steps command false c.args.name.now) (cabinet c.args.cabinet.now) (cabinet c.take_run.new.cabinet) (Ok c.in-Ok.input)) c.command.ensures c.in-Ok.ensures.judged in
     let none = c.in-Err-act.none in
     let still = c.in-Err-act.ensures in
     let idle = IsIdle none.recorder [] in
     let owes = RunOwes c.args.purpose g.V.Device.told g.V.Device.faults before none.recorder [] in
-    let steps = run_steps (command_for c.args.purpose) g.S.Shuffler.crews c.args.name.now in
+    let steps = run_steps (command_for c.args.purpose) false c.args.name.now in
     subst (λ now. EndsBy idle owes steps (cabinet c.args.cabinet.now) (cabinet now) (printer c.args.printer.now) (printer c.act.new.printer) (Stopped status.OutOfMemory)) (sym still.1)
     (subst (λ now. EndsBy idle owes steps (cabinet c.args.cabinet.now) (cabinet c.take_run.new.cabinet) (printer c.args.printer.now) (printer now) (Stopped status.OutOfMemory)) (sym still.2)
     (ends_idle run_taken idle owes steps (cabinet c.args.cabinet.now) (cabinet c.take_run.new.cabinet) (printer c.args.printer.now) OutOfMemory status.OutOfMemory refl
@@ -50,10 +52,10 @@ returns g c =
     let cabinet = stand g.K.Cabinet.told g.K.Cabinet.faults g.K.Cabinet.heard in
     let printer = stand g.P.Printer.told g.P.Printer.faults g.P.Printer.heard in
     let before = g.V.Device.faults c.args.recorder.device in
-    let judged = subst (λ (x : Command × Bool). Judged 0 6 run_taken (run_steps x.0 x.1 c.args.name.now) (cabinet c.args.cabinet.now) (cabinet c.take_run.new.cabinet) (Err c.in-Err.stop)) (λ i. (c.command.ensures i, c.may_crew.ensures i)) c.in-Err.ensures.judged in
-    ends_idle run_taken (IsIdle c.args.recorder []) (RunOwes c.args.purpose g.V.Device.told g.V.Device.faults before c.args.recorder []) (run_steps (command_for c.args.purpose) g.S.Shuffler.crews c.args.name.now)
+    let judged = subst (λ command. Judged 0 6 run_taken (run_steps command false c.args.name.now) (cabinet c.args.cabinet.now) (cabinet c.take_run.new.cabinet) (Err c.in-Err.stop)) c.command.ensures c.in-Err.ensures.judged in
+    ends_idle run_taken (IsIdle c.args.recorder []) (RunOwes c.args.purpose g.V.Device.told g.V.Device.faults before c.args.recorder []) (run_steps (command_for c.args.purpose) false c.args.name.now)
     (cabinet c.args.cabinet.now) (cabinet c.take_run.new.cabinet) (printer c.args.printer.now) c.in-Err.stop c.from.result c.from.ensures
-    (record { trace = c.requires.trace; turns = refl }) judged
+    (record { trace = c.requires; turns = refl }) judged
 
 pub act-requires-clause-mode : goal.act-requires-clause-mode
-act-requires-clause-mode g c = subst (λ (crews : Bool). MayRun crews c.in-Ok.input) c.may_crew.ensures c.in-Ok.ensures.mode
+act-requires-clause-mode g c = not_allowed (runs_crew (request_of c.in-Ok.input.job)) false c.in-Ok.ensures.mode refl

@@ -16,10 +16,10 @@ returns-clause-given g c =
     let batch = c.args.batch.now in
     let told = g.K.Cabinet.told batch.cabinet.now in
     let before = g.K.Cabinet.heard batch.cabinet.now in
-    let after = g.K.Cabinet.heard c.shuffle.new.batch.cabinet.now in
-    IfOk-weaker c.shuffle.result _ _
+    let after = g.K.Cabinet.heard c.shuffle_by_turns.new.batch.cabinet.now in
+    IfOk-weaker c.shuffle_by_turns.result _ _
     (λ ran gave.
     given_as asked told batch.cabinet.ghost_name p batch.name.now batch.start batch.size batch.count before after (ran.history ≢ p.workers ∷ [])
     (IsShuffledFrom p ds (turns_by asked ran.history) (outer_keys asked) (block_keys asked) ran.history ran.recorder.log ran.outcome)
     c.requires.name c.requires.start c.requires.size c.requires.count gave)
-    c.shuffle.ensures.given
+    c.shuffle_by_turns.ensures.given
