@@ -9,6 +9,7 @@ mod outlet;
 mod outputs;
 mod purpose;
 mod run_command;
+mod shuffle_crew;
 mod shuffle_mode;
 mod stored_turns;
 mod taking;

@@ -25,7 +25,7 @@ ghost use Rattle.esa_running.specs.Wanted.{block_keys, outer_keys, turns_by, Has
 use crate::input::{RunInput, take_run};
 use crate::purpose::Purpose;
 use crate::run_command::{Ended, act, end_ran};
-use crate::shuffle_mode::shuffle_by_crew;
+use crate::shuffle_crew::shuffle_by_crew;
 use crate::working::{Store, store_for};
 use esa_batcher::BatchFile;
 use esa_command::settle_failed;

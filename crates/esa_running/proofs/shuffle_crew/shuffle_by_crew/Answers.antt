@@ -8,7 +8,7 @@ use Rattle.esa_shuffle.specs.Records.{IsShuffledFrom}
 use Rattle.esa_shuffle.specs.Runs.{seen_of}
 use Rattle.esa_running.specs.RunTaken.{run_taken}
 use Rattle.esa_running.proofs.Turned.{ended_by_crew, few_stored, stored_are}
-use Rattle.esa_running.proofs.shuffle_mode.shuffle_by_crew.Goals as goal
+use Rattle.esa_running.proofs.shuffle_crew.shuffle_by_crew.Goals as goal
 
 pub returns-clause-ends : goal.returns-clause-ends
 returns-clause-ends g c =
