@@ -12,7 +12,7 @@ returns-in-None g c =
     let printer = stand g.P.Printer.told g.P.Printer.faults g.P.Printer.heard in
     answered g.V.Device.told g.V.Device.faults true _ (printer c.args.printer.now) (Stopped status.Usage) None _
     (sym (ap (option_map (λ call. (call.command, call.job.now))) c.in-None.is) ∙ c.call_of.ensures)
-    c.tell.ensures.tells c.tell.ensures.status
+    c.tell-status.ensures.tells c.tell-status.ensures.status
     (record { ends = refl; cabinet_stands = refl; printer_stands = refl; untouched = (refl, refl) }) tt
 
 pub returns-in-Some : goal.returns-in-Some
@@ -21,5 +21,5 @@ returns-in-Some g c =
     let call = c.in-Some.call in
     answered g.V.Device.told g.V.Device.faults true _ (printer c.run_call_threaded-ran.new.printer) c.run_call_threaded-ran.result.end (Some (call.command, call.job.now)) _
     (sym (ap (option_map (λ call. (call.command, call.job.now))) c.in-Some.is) ∙ c.call_of.ensures)
-    c.tell-in-Some.ensures.tells c.tell-in-Some.ensures.status
+    c.tell.ensures.tells c.tell.ensures.status
     c.run_call_threaded-ran.ensures.ends (λ unbuilt. ap status_in (c.run_call_threaded-ran.ensures.unbuilt unbuilt))
