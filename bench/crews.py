@@ -3,14 +3,14 @@
 
     bench/crews.py [--runs N] [--seed X] [--load N] [--esa PROGRAM]
 
-Each of two thousand jobs has 2 to 16 workers, its own sizes, a batch of made up reports and up to three attempts. Its run
-has to end, with status 0, or with 1 where each attempt failed. Then, with the turns file that it wrote, `plan` has to give
-its trace, and `run` in mode `turns` the same status, lines, database and trace, byte for byte. In three of four jobs each
-attempt ends with a turn of every worker that found no bucket, so that the turns that `run` stores are fewer; they are not
-compared. With `--load` so many processes keep the processors busy meanwhile.
+Each of two thousand jobs has 2 to 16 workers, its own sizes, a batch of made up reports and up to three attempts. Its
+run has to end, with status 0, or with 1 where each attempt failed. Then, with the turns file that it wrote, `plan` has
+to give its trace, and `run` in mode `turns` the same status, lines, database and trace, byte for byte. A crew's attempt
+ends with a turn of each worker that found no bucket left, so the turns that `run` stores are fewer, and not compared.
+With `--load` so many processes keep the processors busy meanwhile.
 
-It says how many runs ended how, how many turns were taken by whom, and how long a run took, and ends with 1 where one
-differs. A run that takes longer than a minute is taken for one that doesn't end.
+It says how many runs ended how, in how many the workers' turns lie among one another, and how long the longest took. It
+ends with 1 where one differs. A run that takes longer than a minute is taken for one that doesn't end.
 """
 
 import argparse
@@ -102,7 +102,8 @@ def differences(esa, folder, dice):
     elif held(folder, "planned") != held(folder, "trace"):
         wrong.append("plan gives another trace")
     again = call(esa, folder, "run", "again", {
-        **job, "output": "again", "trace": "trace_again", "turns": "turns", "turns_out": "turns_again", "mode": "turns"})
+        **job, "output": "again", "trace": "trace_again", "turns": "turns", "turns_out": "turns_again",
+        "mode": "turns"})
     if again != (status, said):
         wrong.append(f"run ended with status {again[0]} and printed {again[1]!r}, the crew {status} and {said!r}")
     for one, other in [("database", "again"), ("trace", "trace_again")]:
