@@ -80,6 +80,19 @@ def clear(folder, names):
             os.remove(os.path.join(folder, name))
 
 
+def is_shared_out(turns):
+    """Whether some worker had a turn, then another one, and then the first again, in one attempt."""
+    blocks = []
+    for one, other in zip([b"next", *turns], turns):
+        if other == b"next":
+            blocks = []
+        elif one != other:
+            if other in blocks:
+                return True
+            blocks.append(other)
+    return False
+
+
 def differences(esa, folder, dice):
     """Runs a job in mode crew, and what its turns give; answers how it ended, its turns, its time and what differs."""
     records = dice.choice(RECORDS)
@@ -92,7 +105,7 @@ def differences(esa, folder, dice):
         **job, "output": "database", "trace": "trace", "turns_out": "turns", "mode": "crew"})
     took = time.monotonic() - begun
     if status not in (ENDED, FAILED):
-        return status, 0, took, [f"the crew ended with status {status}: {said}"], shared
+        return status, [], took, [f"the crew ended with status {status}: {said}"], shared
     wrong = []
     turns = held(folder, "turns").split(b"\n")[:-1]
     planned = call(esa, folder, "plan", "plan", {
@@ -132,8 +145,7 @@ def main():
                 status, turns, took, wrong, sizes = differences(esa, folder, dice)
                 ended[status] = ended.get(status, 0) + 1
                 longest = max(longest, took)
-                # some worker but one has taken turns between the turns of another
-                shared_out += turns != 0 and any(one != other for one, other in zip(turns, turns[2:]))
+                shared_out += is_shared_out(turns)
                 for line in wrong:
                     failed = True
                     print(f"run {number} of {sizes}: {line}", flush=True)
