@@ -121,11 +121,11 @@ is_built command.Recover = true
 is_built command.Plan = true
 is_built _ = false
 
--- By what a device tells, and by its count of faults. Running workers aren't built: a run that asks for a crew is refused at its
--- field `mode`, whoever calls, and so is a shuffle.
+-- By what a device tells, and by its count of faults. A job that shuffles a batch may ask for a crew where `crews` says so, and
+-- is refused at its field `mode` otherwise.
 abbrev pub meaning_of : {V : Type 0} → (told : V → Option (List (List ℕ))) → (faults : V → ℕ) → (crews : Bool) → Used V → Command × List ℕ → Meaning
 meaning_of told faults crews used (command.Shuffle, name) =
-    shuffling used (run_steps command.Shuffle false name) (RunOwes HandOn told faults (faults used.recorder.device) used.recorder_now used.history)
+    shuffling used (run_steps command.Shuffle crews name) (RunOwes HandOn told faults (faults used.recorder.device) used.recorder_now used.history)
 meaning_of told faults crews used (command.Run, name) =
-    shuffling used (run_steps command.Run false name) (RunOwes Count told faults (faults used.recorder.device) used.recorder_now used.history)
+    shuffling used (run_steps command.Run crews name) (RunOwes Count told faults (faults used.recorder.device) used.recorder_now used.history)
 meaning_of told faults crews used call = alone used (steps_of crews call)

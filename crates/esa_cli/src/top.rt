@@ -7,8 +7,7 @@ ghost use Rattle.esa_cli.specs.Answers.{Answers};
 ghost use Rattle.esa_cli.specs.Call.{call_of};
 
 use crate::call::call_of;
-use crate::dispatch::run_call;
-use crate::performs::{Crew, OneThread, Performs};
+use crate::dispatch::{run_call, run_call_threaded};
 use esa_command::tell;
 use esa_device::{Device, Recorder};
 use esa_floor::History;
@@ -26,43 +25,6 @@ pub struct Ended<V: Device> {
     pub recorder: Recorder<V>,
     /// The turns of a run's attempts, and the owner's entries. There is none where no batch was loaded.
     pub history: Option<History>,
-}
-
-/// Runs what the words ask for, by who performs it.
-fn perform<S: Performs, K: Cabinet, P: Printer, V: Device>(
-    performs: &S,
-    alloc: Global,
-    words: &[String],
-    cabinet: &mut K,
-    printer: &mut P,
-    recorder: Recorder<V>,
-) -> Ended<V>
-    requires ready { S.ready performs.now }
-    requires trace { recorder.trace ≡ [] }
-    ensures { Answers V.told V.faults S.crews (call_of (map string_bytes words.now)) (record {
-      cabinet = stand K.told K.faults K.heard cabinet.old;
-      cabinet_now = stand K.told K.faults K.heard cabinet.new;
-      printer = stand P.told P.faults P.heard printer.old;
-      printer_now = stand P.told P.faults P.heard printer.new;
-      used = record { recorder = recorder; recorder_now = result.recorder; history = history_in result.history };
-      ended = result.status;
-    }) }
-{
-    match call_of(words) {
-        None => Ended {
-            status: tell(End::Stopped(Status::Usage), printer),
-            recorder,
-            history: None,
-        },
-        Some(call) => {
-            let ended = run_call(performs, alloc, cabinet, printer, recorder, call);
-            Ended {
-                status: tell(ended.end, printer),
-                recorder: ended.recorder,
-                history: ended.history,
-            }
-        }
-    }
 }
 
 /// Runs the command that the words after the program's name ask for, on one thread. It waits for nobody and returns.
@@ -86,12 +48,26 @@ pub fn esa_plain<K: Cabinet, P: Printer, V: Device>(
       ended = result.status;
     }) }
 {
-    perform(&OneThread, alloc, words, cabinet, printer, recorder)
+    match call_of(words) {
+        None => Ended {
+            status: tell(End::Stopped(Status::Usage), printer),
+            recorder,
+            history: None,
+        },
+        Some(call) => {
+            let ended = run_call(alloc, cabinet, printer, recorder, call);
+            Ended {
+                status: tell(ended.end, printer),
+                recorder: ended.recorder,
+                history: ended.history,
+            }
+        }
+    }
 }
 
-/// The same where threads can be started: a job of intake may ask for a crew, and what it comes to is the same. It may wait for
-/// the threads that it starts.
-pub fn esa<R: Threads + Wait + Sync, K: Cabinet, P: Printer, V: Device>(
+/// The same where threads can be started: a job of intake, run or shuffle may ask for a crew. What intake comes to is the same
+/// then. A shuffle comes to what is said by the turns that its workers stored. It may wait for the threads that it starts.
+pub fn esa<R: Threads + Wait + Sync, K: Cabinet, P: Printer, V: Device + Send + Drop>(
     rt: &R,
     alloc: Global,
     words: &[String],
@@ -109,5 +85,22 @@ pub fn esa<R: Threads + Wait + Sync, K: Cabinet, P: Printer, V: Device>(
       ended = result.status;
     }) }
 {
-    perform(&Crew { rt }, alloc, words, cabinet, printer, recorder)
+    match call_of(words) {
+        None => {
+            let status = tell(End::Stopped(Status::Usage), printer);
+            Ended {
+                status,
+                recorder,
+                history: None,
+            }
+        }
+        Some(call) => {
+            let ran = run_call_threaded(rt, alloc, cabinet, printer, recorder, call);
+            Ended {
+                status: tell(ran.end, printer),
+                recorder: ran.recorder,
+                history: ran.history,
+            }
+        }
+    }
 }

@@ -107,6 +107,9 @@ module _ {V : Type 0} (faults : V → ℕ) (p : Sizes) (ds : ℕ → Draw) (pre 
     count_now : length (lists_ended p g) ≡ a + 1
     count_now = let long = length-append hs (h ∷ []) in let is = ap length listed in let was = before.count in omega (arith, long, is, was)
 
+    pub few_now : length (lists_ended p g) ≤ p.attempts
+    few_now = let is = count_now in omega (arith, is, inside)
+
     historied : g.history ++ p.workers ∷ [] ≡ pre ++ history_of p (lists_ended p g)
     historied =
         ap (λ (xs : List ℕ). xs ++ p.workers ∷ []) longer
@@ -232,6 +235,10 @@ ends_all faults p ds pre a f failures before none some last count =
       failed = before.failed ∙ ap (λ (n : ℕ). map (verdict_in p ds (lists_ended p f)) (below n)) (sym before.count);
       batch = refl;
     }
+
+pub few_all : {V : Type 0} (faults : V → ℕ) (p : Sizes) (ds : ℕ → Draw) (pre : List ℕ) (a : ℕ) (f : Parts V) (failures : List Verdict) → IsBetween faults p ds pre a f failures → a ≤ p.attempts
+    → length (lists_ended p f) ≤ p.attempts
+few_all faults p ds pre a f failures before most = let is = before.count in omega (arith, is, most)
 
 pub done_all : {V : Type 0} (faults : V → ℕ) (p : Sizes) (ds : ℕ → Draw) (pre : List ℕ) (a : ℕ) (f : Parts V) (failures : List Verdict) → IsBetween faults p ds pre a f failures
     → AllAreDone p ds (lists_ended p f) outcome.Overflow

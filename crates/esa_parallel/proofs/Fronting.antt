@@ -155,6 +155,11 @@ module _ {V : Type 0} (faults : V → ℕ) (p : Sizes) (ds : ℕ → Draw) (f : 
         batch = subst (λ (q : Sizes). IsCounted q.b (length f.recorder.trace) before now o) stands.of.plan counted;
       })
 
+  pub none_few : length (lists_ended p (behind (length f.history) f)) ≤ p.attempts
+  none_few =
+      let gone : drop (length f.history) f.history ≡ [] = drop_all (length f.history) f.history (omega arith) in
+      subst (λ (h : List ℕ). length (lists_ended p (record f { history = h })) ≤ p.attempts) (sym gone) (let long = ap length empty in omega (arith, long))
+
   pub none_took_part : AllTookPart p (lists_ended p (behind (length f.history) f))
   none_took_part =
       let gone : drop (length f.history) f.history ≡ [] = drop_all (length f.history) f.history (omega arith) in

@@ -74,6 +74,7 @@ pub(crate) fn make_attempts<
     requires coins { C.plan coins.now ≡ G.plan }
     requires draws { (a : ℕ) → G.draws a ≡ drawn (C.target_list coins.now) (C.order_list coins.now) a }
     ensures ends { (count : ℕ) → MayEnd V.faults G.plan G.draws (lists_ended G.plan result.held.value) count count result.held.value failures.new result.outcome }
+    ensures few { length (lists_ended G.plan result.held.value) ≤ G.plan.attempts }
     ensures took_part { AllTookPart G.plan (lists_ended G.plan result.held.value) }
     ensures done { AllAreDone G.plan G.draws (lists_ended G.plan result.held.value) result.outcome }
 

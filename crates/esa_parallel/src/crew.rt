@@ -88,7 +88,7 @@ fn open<G: Told, V: Device, C: Coins>(
 }
 
 /// Takes the memory of a run and runs, where the draws are told. Each worker passes the gate after each of its turns.
-fn run_told<
+pub(crate) fn run_told<
     G: Told + Send + Drop,
     V: Device + Send + Drop,
     C: Coins + Sync,
@@ -117,6 +117,7 @@ fn run_told<
     ensures ends { IfOk result (λ ran. EndsRun plan G.draws (lists plan.workers ran.history)
         (seen_of V.faults (V.faults recorder.device) (B.faults batch.old) ran.recorder ran.history (B.faults batch.new))
         (opens_last plan run ran.recorder.last) ran.failures ran.outcome) }
+    ensures few { IfOk result (λ ran. length (lists plan.workers ran.history) ≤ plan.attempts) }
     ensures took_part { IfOk result (λ ran. AllTookPart plan (lists plan.workers ran.history)) }
     ensures done { IfOk result (λ ran. AllAreDone plan G.draws (lists plan.workers ran.history) ran.outcome) }
     ensures given { IfOk result (λ ran. HasGiven plan (B.told batch.old) (B.part (B.grounds batch.old)) (B.heard batch.old) (B.heard batch.new) (ran.history ≢ plan.workers ∷ [])
@@ -170,8 +171,9 @@ pub fn run_crew<V: Device + Send + Drop, C: Coins + Sync, B: Records, R: Threads
         (seen_of V.faults (V.faults recorder.device) (B.faults batch.old) ran.recorder ran.history (B.faults batch.new))
         (opens_last plan run ran.recorder.last) ran.failures ran.outcome) }
 
-    // Each attempt has turns of every worker, and of nobody else. Where no exchange failed, each worker had one that found no
-    // bucket left, but in an attempt that a failed access cut.
+    // There are turns of no more attempts than are planned. Each has turns of every worker, and of nobody else. Where no
+    // exchange failed, each worker had one that found no bucket left, but in an attempt that a failed access cut.
+    ensures few { IfOk result (λ ran. length (lists plan.workers ran.history) ≤ plan.attempts) }
     ensures took_part { IfOk result (λ ran. AllTookPart plan (lists plan.workers ran.history)) }
     ensures done { IfOk result (λ ran. AllAreDone plan (drawn (C.target_list coins.now) (C.order_list coins.now)) (lists plan.workers ran.history) ran.outcome) }
 

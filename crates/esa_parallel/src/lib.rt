@@ -11,6 +11,8 @@ mod attempts;
 mod crew;
 mod parallel;
 mod runs;
+#[cfg(test)]
+mod tests;
 mod tools;
 
 pub use crew::run_crew;

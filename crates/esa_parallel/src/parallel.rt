@@ -69,6 +69,7 @@ pub(crate) fn run_opened<
     ensures ends { EndsRun G.plan G.draws (lists G.plan.workers result.history)
         (seen_of V.faults (opened_of opened.turnstile).faults (B.faults batch.old) result.recorder result.history (B.faults batch.new))
         (opens_last G.plan (opened_of opened.turnstile).run result.recorder.last) result.failures result.outcome }
+    ensures few { length (lists G.plan.workers result.history) ≤ G.plan.attempts }
     ensures took_part { AllTookPart G.plan (lists G.plan.workers result.history) }
     ensures done { AllAreDone G.plan G.draws (lists G.plan.workers result.history) result.outcome }
     ensures given { HasGiven G.plan (B.told batch.old) (B.part (B.grounds batch.old)) (B.heard batch.old) (B.heard batch.new) (result.history ≢ G.plan.workers ∷ [])

@@ -74,6 +74,7 @@ fn load_and_run<
     ensures ends { let floor = behind (length held.value.history) result.held.value in
         MayEnd V.faults G.plan G.draws (lists_ended G.plan floor) (B.faults batch.old) (B.faults batch.new) floor failures.new result.outcome }
     ensures stands { Stands V.faults G.plan G.draws (ended_as result.held.value result.outcome) }
+    ensures few { length (lists_ended G.plan (behind (length held.value.history) result.held.value)) ≤ G.plan.attempts }
     ensures took_part { AllTookPart G.plan (lists_ended G.plan (behind (length held.value.history) result.held.value)) }
     ensures done { AllAreDone G.plan G.draws (lists_ended G.plan (behind (length held.value.history) result.held.value)) result.outcome }
     ensures given { let floor = behind (length held.value.history) result.held.value in
@@ -137,6 +138,7 @@ pub(crate) fn run_on<
     ensures ends { EndsRun G.plan G.draws (lists G.plan.workers result.history)
         (seen_of V.faults (opened_of turnstile.now).faults (B.faults batch.old) result.recorder result.history (B.faults batch.new))
         (opens_last G.plan (opened_of turnstile.now).run result.recorder.last) result.failures result.outcome }
+    ensures few { length (lists G.plan.workers result.history) ≤ G.plan.attempts }
     ensures took_part { AllTookPart G.plan (lists G.plan.workers result.history) }
     ensures done { AllAreDone G.plan G.draws (lists G.plan.workers result.history) result.outcome }
     ensures given { HasGiven G.plan (B.told batch.old) (B.part (B.grounds batch.old)) (B.heard batch.old) (B.heard batch.new) (result.history ≢ G.plan.workers ∷ [])

@@ -9,11 +9,14 @@ mod outlet;
 mod outputs;
 mod purpose;
 mod run_command;
+mod shuffle_crew;
 mod shuffle_mode;
 mod stored_turns;
 mod taking;
+mod threaded;
 mod working;
 
 pub use input::{RunInput, take_run};
 pub use purpose::Purpose;
 pub use run_command::{Ended, run};
+pub use threaded::run_threaded;

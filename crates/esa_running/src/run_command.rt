@@ -119,7 +119,7 @@ fn shuffle_batch<K: Cabinet, V: Device>(
 }
 
 /// Does the work of a command whose batch was shuffled.
-fn end_ran<K: Cabinet, P: Printer, V: Device>(
+pub(crate) fn end_ran<K: Cabinet, P: Printer, V: Device>(
     cabinet: &mut K,
     printer: &mut P,
     input: &RunInput,
@@ -198,7 +198,7 @@ fn run_ready<K: Cabinet, P: Printer, V: Device>(
 }
 
 /// Does what is asked for. Where there is no memory for that nothing was done.
-fn act<K: Cabinet, P: Printer, V: Device>(
+pub(crate) fn act<K: Cabinet, P: Printer, V: Device>(
     alloc: Global,
     purpose: Purpose,
     cabinet: &mut K,

@@ -27,7 +27,7 @@ use Rattle.esa_shuffle.proofs.Stopped.{good_is}
 use Rattle.esa_shuffle.proofs.Taken.{cut_short, cut_writes}
 use Rattle.esa_workers.proofs.Distributing.{first_of}
 use Rattle.esa_parallel.specs.Crews.{AllAreDone, IsDoneByAll, TookPart}
-use Rattle.esa_parallel.proofs.Between.{IsBetween, alone_now, done_all, done_cut, done_good, ends_all, ends_cut, ends_good, first_between, last, leads_on, none_before, took_part_now}
+use Rattle.esa_parallel.proofs.Between.{IsBetween, alone_now, done_all, done_cut, done_good, ends_all, ends_cut, ends_good, few_all, few_now, first_between, last, leads_on, none_before, took_part_now}
 use Rattle.esa_parallel.proofs.attempts.make_attempts.Given.{Over}
 use Rattle.esa_parallel.proofs.attempts.make_attempts.Goals.{After-make_attempt-after, In-loop-attempt}
 use Rattle.esa_parallel.proofs.attempts.make_attempts.Goals as goal
@@ -149,6 +149,12 @@ returns-then-is_good-clause-ends g c =
     ends_good g.V.Device.faults (p g at) (ds g at) (pre g at) (a g at) c.loop-attempt.held.value c.make_attempt-after.result.held.value c.loop-attempt.failures c.loop-attempt.invariant.between (fewer g at)
     (same g at) (took g at) c.make_attempt-after.ensures.history c.in-Ok.verdict (end_is g at c.in-Ok.verdict c.in-Ok.is) (nobody g at) (sym c.is_good.ensures ∙ c.if-is_good.true)
 
+pub returns-then-is_good-clause-few : goal.returns-then-is_good-clause-few
+returns-then-is_good-clause-few g c =
+    let at = (goal.at.returns-then-is_good-clause-few g c).After-make_attempt-after in
+    few_now g.V.Device.faults (p g at) (ds g at) (pre g at) (a g at) c.loop-attempt.held.value c.make_attempt-after.result.held.value c.loop-attempt.failures c.loop-attempt.invariant.between (fewer g at)
+    (same g at) (took g at) c.make_attempt-after.ensures.history
+
 pub returns-then-is_good-clause-took_part : goal.returns-then-is_good-clause-took_part
 returns-then-is_good-clause-took_part g c =
     let at = (goal.at.returns-then-is_good-clause-took_part g c).After-make_attempt-after in
@@ -205,6 +211,12 @@ returns-in-Err-clause-ends g c =
     (ends_cut g.V.Device.faults (p g at) (ds g at) (pre g at) (a g at) c.loop-attempt.held.value new c.loop-attempt.failures c.loop-attempt.invariant.between (fewer g at)
     (same g at) (took g at) c.make_attempt-after.ensures.history (nobody g at) c.in-Err.fault
     (subst (AttemptEnd g.V.Device.faults (p g at) (ds g at) (a g at) new) c.in-Err.is c.make_attempt-after.ensures.ends))
+
+pub returns-in-Err-clause-few : goal.returns-in-Err-clause-few
+returns-in-Err-clause-few g c =
+    let at = (goal.at.returns-in-Err-clause-few g c).After-make_attempt-after in
+    few_now g.V.Device.faults (p g at) (ds g at) (pre g at) (a g at) c.loop-attempt.held.value c.make_attempt-after.result.held.value c.loop-attempt.failures c.loop-attempt.invariant.between (fewer g at)
+    (same g at) (took g at) c.make_attempt-after.ensures.history
 
 pub returns-in-Err-clause-took_part : goal.returns-in-Err-clause-took_part
 returns-in-Err-clause-took_part g c =
@@ -295,6 +307,14 @@ returns-clause-alone g c =
     let plan = ap (λ (q : Sizes). q.attempts) (c.plan.ensures ∙ c.requires.next.of.plan) in
     let some : 1 ≤ a = omega (arith, least, past, value, plan) in
     c.loop-attempt.invariant.alone some
+
+pub returns-clause-few : goal.returns-clause-few
+returns-clause-few g c =
+    let most = c.loop-attempt.auto.attempt-end in
+    let value = c.attempts-attempt-end.ensures.value in
+    let plan = ap (λ (q : Sizes). q.attempts) (c.plan.ensures ∙ c.requires.next.of.plan) in
+    few_all g.V.Device.faults g.G.Told.plan g.G.Told.draws c.args.held.value.history c.loop-attempt.attempt c.loop-attempt.held.value c.loop-attempt.failures c.loop-attempt.invariant.between
+    (omega (arith, most, value, plan))
 
 pub returns-clause-done : goal.returns-clause-done
 returns-clause-done g c =

@@ -1,5 +1,5 @@
 -- What is said of the run on the opened turnstile is so for the plan and the keys that were handed in.
-use Rattle.std.proofs.Common.{◌≢◌, ◌+◌, ◌<◌, [], ◌∷◌, get_or, sym, subst}
+use Rattle.std.proofs.Common.{◌≢◌, ◌+◌, ◌<◌, ◌≤◌, [], ◌∷◌, get_or, length, sym, subst}
 use Rattle.esa_crew.specs.Posts.{IsNewWorker}
 use Rattle.esa_envelope.specs.declared.keys.Keys.{Keys}
 use Rattle.esa_params.specs.Sizes.{Sizes}
@@ -30,6 +30,9 @@ returns-in-Ok-open-clause-ends g c =
     let ran = c.run_opened.result in
     ends_same g.V.Device.faults g.G.Told.draws g.G.Told.plan c.args.plan _ c.args.run _ (g.V.Device.faults c.args.recorder.device) (g.B.Records.faults c.args.batch.now) (g.B.Records.faults c.run_opened.new.batch)
     ran.recorder ran.history ran.failures ran.outcome c.requires.plan c.in-Ok-open.ensures.run c.in-Ok-open.ensures.faults c.run_opened.ensures.ends
+
+pub returns-in-Ok-open-clause-few : goal.returns-in-Ok-open-clause-few
+returns-in-Ok-open-clause-few g c = subst (λ (q : Sizes). length (lists q.workers c.run_opened.result.history) ≤ q.attempts) c.requires.plan c.run_opened.ensures.few
 
 pub returns-in-Ok-open-clause-took_part : goal.returns-in-Ok-open-clause-took_part
 returns-in-Ok-open-clause-took_part g c =

@@ -1,5 +1,5 @@
 -- The attempts end the run after the load, or the load does.
-use Rattle.std.proofs.Common.{◌≡◌, ◌≢◌, true, false, ℕ, ◌*◌, [], ◌∷◌, ◌++◌, All, drop, length, refl, sym, ap, ◌∙◌, subst, arith}
+use Rattle.std.proofs.Common.{◌≡◌, ◌≢◌, true, false, ℕ, ◌*◌, ◌≤◌, [], ◌∷◌, ◌++◌, All, drop, length, refl, sym, ap, ◌∙◌, subst, arith}
 use Rattle.std.proofs.lemmas.List.{drop_all}
 use mathlib.Core.List.{IsPrefix}
 use Rattle.esa_params.specs.Form.{envelope_length}
@@ -17,7 +17,7 @@ use Rattle.esa_workers.proofs.Meeting.{front_refl}
 use Rattle.esa_parallel.specs.Crews.{AllAreDone, AllTookPart}
 use Rattle.esa_parallel.specs.Fronts.{behind}
 use Rattle.esa_parallel.proofs.Attempting.{rests_still}
-use Rattle.esa_parallel.proofs.Fronting.{has_loaded, load_failed, none_done, none_took_part}
+use Rattle.esa_parallel.proofs.Fronting.{has_loaded, load_failed, none_done, none_few, none_took_part}
 use Rattle.esa_parallel.proofs.runs.load_and_run.Given.{Over}
 use Rattle.esa_parallel.proofs.runs.load_and_run.Goals.{After-load, After-make_attempts}
 use Rattle.esa_parallel.proofs.runs.load_and_run.Goals as goal
@@ -54,6 +54,12 @@ returns-in-Ok-clause-ends g c =
     (sym none)
     (subst (λ (n : ℕ). MayEnd g.V.Device.faults p g.G.Told.draws (lists_ended p over.held.value) before n over.held.value c.make_attempts.new.failures over.outcome)
     (sym c.in-Ok.ensures.ends.1) (c.make_attempts.ensures.ends before))
+
+pub returns-in-Ok-clause-few : goal.returns-in-Ok-clause-few
+returns-in-Ok-clause-few g c =
+    let over = c.make_attempts.result in
+    let none = none_came g (goal.at.returns-in-Ok-clause-few g c).After-make_attempts in
+    subst (λ (n : ℕ). length (lists_ended g.G.Told.plan (behind n over.held.value)) ≤ g.G.Told.plan.attempts) (sym none) c.make_attempts.ensures.few
 
 pub returns-in-Ok-clause-took_part : goal.returns-in-Ok-clause-took_part
 returns-in-Ok-clause-took_part g c =
@@ -112,6 +118,14 @@ returns-in-Err-clause-ends g c =
     subst (λ (n : ℕ). MayEnd g.V.Device.faults p g.G.Told.draws (lists_ended p (behind n f)) before now (behind n f) c.args.failures.now c.in-Err.outcome)
     (ap (λ (x : Parts _). length x.history) c.load.ensures.floor)
     (load_failed g.V.Device.faults p g.G.Told.draws f c.in-Err.outcome end.0 none before now c.args.failures.now end.2 end.1 c.requires.failures)
+
+pub returns-in-Err-clause-few : goal.returns-in-Err-clause-few
+returns-in-Err-clause-few g c =
+    let f = c.load.new.floor in
+    let p = g.G.Told.plan in
+    let none = none_begun g (goal.at.returns-in-Err-clause-few g c).After-load in
+    subst (λ (n : ℕ). length (lists_ended p (behind n f)) ≤ p.attempts) (ap (λ (x : Parts _). length x.history) c.load.ensures.floor)
+    (none_few g.V.Device.faults p g.G.Told.draws f c.in-Err.outcome c.in-Err.ensures.ends.0 none)
 
 pub returns-in-Err-clause-took_part : goal.returns-in-Err-clause-took_part
 returns-in-Err-clause-took_part g c =

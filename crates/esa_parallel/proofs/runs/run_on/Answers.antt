@@ -1,5 +1,5 @@
 -- The owner finds a floor on which nothing was done, and gives it up as it has ended.
-use Rattle.std.proofs.Common.{◌≡◌, ◌≢◌, ℕ, ◌<◌, List, [], ◌∷◌, ◌++◌, All, length, drop, sym, ap, ◌∙◌, subst, arith, length-append}
+use Rattle.std.proofs.Common.{◌≡◌, ◌≢◌, ℕ, ◌<◌, ◌≤◌, List, [], ◌∷◌, ◌++◌, All, length, drop, sym, ap, ◌∙◌, subst, arith, length-append}
 use mathlib.Core.List.{IsPrefix}
 use Rattle.esa_device.specs.Recording.{Recorded}
 use Rattle.esa_params.specs.Sizes.{Sizes}
@@ -142,6 +142,10 @@ module _ (g : Over) (c : After-behind g) where
 
 pub returns-clause-ends : goal.returns-clause-ends
 returns-clause-ends g c = ends g (goal.at.returns-clause-ends g c).After-behind
+
+pub returns-clause-few : goal.returns-clause-few
+returns-clause-few g c =
+    subst (λ (hs : List (List ℕ)). length hs ≤ g.G.Told.plan.attempts) (lists_are g (goal.at.returns-clause-few g c).After-behind) c.load_and_run-held.ensures.few
 
 pub returns-clause-took_part : goal.returns-clause-took_part
 returns-clause-took_part g c = subst (AllTookPart g.G.Told.plan) (lists_are g (goal.at.returns-clause-took_part g c).After-behind) c.load_and_run-held.ensures.took_part

@@ -1,0 +1,44 @@
+use Rattle.std.proofs.Common.{◌≢◌, [], ◌∷◌, refl, sym, subst}
+use Rattle.esa_shuffle.specs.Loading.{HasGiven}
+use Rattle.esa_shuffle.specs.Records.{IsShuffledFrom}
+use Rattle.esa_shuffle.specs.Runs.{seen_of}
+use Rattle.esa_command.specs.Stand.{stand}
+use Rattle.esa_running.specs.ComingOut.{batch_told, batch_part, IsLoaded}
+use Rattle.esa_running.specs.RunTaken.{run_taken}
+use Rattle.esa_running.specs.Wanted.{block_keys, outer_keys, turns_by}
+use Rattle.esa_running.proofs.ComingOut.{loaded, made_of}
+use Rattle.esa_running.proofs.threaded.crew_ready.Goals as goal
+
+pub end_ran-requires-clause-ends : goal.end_ran-requires-clause-ends
+end_ran-requires-clause-ends g c = (g.V.Device.faults c.args.recorder.device, g.K.Cabinet.faults c.args.cabinet.now, c.in-Ok.ensures.ends)
+
+pub returns-in-Ok : goal.returns-in-Ok
+returns-in-Ok g c =
+    let input = c.args.input.now in
+    let asked = run_taken input in
+    let ran = c.in-Ok.ran in
+    let device = g.V.Device.faults c.args.recorder.device in
+    let batch = g.K.Cabinet.faults c.args.cabinet.now in
+    let stands = stand g.K.Cabinet.told g.K.Cabinet.faults g.K.Cabinet.heard in
+    let taken = stands c.args.cabinet.now in
+    let acted = stands c.crew_batch.new.cabinet in
+    let seen = seen_of g.V.Device.faults device batch ran.recorder ran.history acted.faults in
+    let ends = c.in-Ok.ensures.ends in
+    let gave =
+    subst (λ p. HasGiven p (batch_told asked taken.told) (batch_part asked) taken.heard acted.heard (ran.history ≢ p.workers ∷ [])
+    (IsShuffledFrom p asked.draws (turns_by asked ran.history) (outer_keys asked) (block_keys asked) ran.history ran.recorder.log ran.outcome)) c.requires.taken.plan c.in-Ok.ensures.given in
+    let done =
+    c.end_ran.ensures.works device batch gave.given ends
+    (made_of asked taken acted ran.history ran.recorder.log ran.outcome gave seen ran.recorder.last ran.failures c.requires.taken.limits refl ends) in
+    record {
+      work = done.work;
+      acted = acted;
+      owes = record {
+        given = gave.given;
+        load = subst (λ history. IsLoaded asked taken acted history gave.given) (sym c.end_ran.ensures.history) (loaded asked taken acted ran.history ran.recorder.log ran.outcome gave);
+        became = done.became;
+        ends = done.ends;
+        still = c.crew_batch.ensures.told;
+      };
+      settles = done.settles;
+    }
