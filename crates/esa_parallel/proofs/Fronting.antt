@@ -1,5 +1,5 @@
 -- A floor that was loaded, and one whose load failed, behind the entries that came before the run.
-use Rattle.std.proofs.Common.{◌≡◌, ℕ, zero, suc, ◌+◌, ◌<◌, ◌≤◌, List, [], ◌∷◌, ◌++◌, length, map, drop, All, Option, Some, None, refl, sym, ap, ◌∙◌, subst, arith, length-append}
+use Rattle.std.proofs.Common.{◌≡◌, inl, ℕ, zero, suc, ◌+◌, ◌<◌, ◌≤◌, List, [], ◌∷◌, ◌++◌, length, map, drop, All, Option, Some, None, refl, sym, ap, ◌∙◌, subst, arith, length-append}
 use mathlib.Core.List.{IsPrefix}
 use Rattle.std.proofs.lemmas.List.{drop_all}
 use Rattle.std.proofs.lemmas.List.Elements.{All-nil}
@@ -151,6 +151,7 @@ module _ {V : Type 0} (faults : V → ℕ) (p : Sizes) (ds : ℕ → Draw) (f : 
         room = let few = entries in omega (arith, few);
         history = ap (history_of p) (sym empty);
         turns = stored o load;
+        behind = λ access ends there. inl refl;
         failed = no_failures ∙ ap (λ (n : ℕ). map (verdict_in p ds (lists_ended p alone)) (below n)) (sym (none_failed o load));
         batch = subst (λ (q : Sizes). IsCounted q.b (length f.recorder.trace) before now o) stands.of.plan counted;
       })

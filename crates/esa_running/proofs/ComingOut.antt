@@ -39,8 +39,9 @@ use Rattle.esa_scans.specs.Forwarded.{sent_of}
 use Rattle.esa_scans.specs.Scans.{FailsAt, carried_from, items_from, reads}
 use Rattle.esa_scans.proofs.FaithfulLaws.{scan-reads}
 use Rattle.esa_shuffle.specs.Loading.{HasGiven}
-use Rattle.esa_shuffle.specs.Records.{IsShuffledFrom}
+use Rattle.esa_shuffle.specs.Records.{IsShuffledFrom, IsWrittenFrom}
 use Rattle.esa_shuffle.specs.Runs.{IsShuffled}
+use Rattle.esa_shuffle.proofs.Inputs.{written_nothing, written_read}
 use Rattle.esa_shuffle.proofs.Output.{batch_comes_out}
 use Rattle.esa_shuffling.specs.Drawn.{draws_of}
 use Rattle.esa_spec.specs.Draws.{Draw, IsDrawn}
@@ -147,6 +148,7 @@ none_became asked log none = record {
       let Took = TookItsBlock (sizes_in asked) (block_keys asked) asked.draws (batch_record asked []) (turns_at (lists (sizes_in asked).workers [])) in
       subst (All Took) (sym none) (All-nil Took);
   failed = subst OnlyLastFailed (sym none) (none_but_last [] (All-nil Moved));
+  written = subst (IsWrittenFrom (sizes_in asked) (block_keys asked) []) (sym none) (written_nothing (sizes_in asked) (block_keys asked));
 }
 
 -- ---- what became of it
@@ -222,13 +224,16 @@ module _ (asked : Asked) (given history : List ℕ) where
     none_on : NoWriteFailed old → NoWriteFailed new
     none_on none = subst NoWriteFailed (sym on.1) (All-append Moved old on.0 none (reads_moved on.0 on.2))
 
+    written_on : IsWrittenFrom (sizes_in asked) (block_keys asked) given new
+    written_on = subst (IsWrittenFrom (sizes_in asked) (block_keys asked) given) (sym on.1) (written_read (sizes_in asked) (block_keys asked) given old on.0 on.2 m.shuffled.written)
+
     -- after the scans of an output of which no write failed
     pub became_well : NoWriteFailed old → Became asked given history new status.Ok
-    became_well none = record { took = took_on; failed = none_on none }
+    became_well none = record { took = took_on; failed = none_on none; written = written_on }
 
     pub became_broken : (fault : VaultFault) → NoWriteFailed old → Became asked given history new (fault_status fault)
-    became_broken (Device number) none = record { took = took_on; failed = none_but_last new (none_on none) }
-    became_broken (Tampered number) none = record { took = took_on; failed = none_on none }
+    became_broken (Device number) none = record { took = took_on; failed = none_but_last new (none_on none); written = written_on }
+    became_broken (Tampered number) none = record { took = took_on; failed = none_on none; written = written_on }
 
 -- ---- what comes out
 

@@ -24,7 +24,7 @@ use Rattle.esa_command.specs.Asked.{number_of}
 use Rattle.esa_command.specs.Stand.{Stand}
 use Rattle.esa_command.specs.Taking.{name_of}
 use Rattle.esa_shuffle.specs.Loading.{IsGiven}
-use Rattle.esa_shuffle.specs.Records.{IsShuffledFrom, record_at, records_given}
+use Rattle.esa_shuffle.specs.Records.{IsShuffledFrom, IsWrittenFrom, record_at, records_given}
 use Rattle.esa_running.specs.Run.{Asked}
 use Rattle.esa_running.specs.Wanted.{sizes_in, turns_by, block_keys, outer_keys, drop_key}
 
@@ -72,6 +72,8 @@ pub record Became (asked : Asked) (given history : List ℕ) (log : List Carried
   pub took : IsFaithful (sizes_in asked) log
       → All (TookItsBlock (sizes_in asked) (block_keys asked) asked.draws (batch_record asked given) (turns_at (lists (sizes_in asked).workers history))) log
   pub failed : WritesBy owed log
+  -- whatever the device did, the input was written from the bytes that the load was given, and it was given no others
+  pub written : IsWrittenFrom (sizes_in asked) (block_keys asked) given log
 
 -- ---- what comes out
 

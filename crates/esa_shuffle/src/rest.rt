@@ -1,6 +1,6 @@
 //! What comes after the turns of an attempt: the drain and the compression.
 
-ghost use Rattle.std.specs.Prelude.{◌≡◌, ℕ, ◌*◌, ◌<◌, None, Ok, Some, length};
+ghost use Rattle.std.specs.Prelude.{◌≡◌, ◌≢◌, ℕ, ◌*◌, ◌<◌, None, Ok, Some, length};
 ghost use Rattle.esa_device.specs.Logs.{IsFaithful};
 ghost use Rattle.esa_floor.specs.Keeping.{HasInput, QueuesHold, SlotsHold};
 ghost use Rattle.esa_floor.specs.Standing.{Stands, turns_made};
@@ -95,6 +95,7 @@ pub fn finish<V: Device, G: Told, C: Coins>(
         → EachTookItsBlock G.draws record_of floor.old → EachTookItsBlock G.draws record_of floor.new }
     ensures writes { WritesFailed floor.old.stop floor.old.recorder.log → WritesEnd result floor.new.recorder.log }
     ensures stopped { EndsByStop floor.old.stop result }
+    ensures still { floor.old.stop ≢ None → floor.new ≡ floor.old }
     ensures plan { press.new.plan ≡ press.old.plan }
     ensures run { press.new.run ≡ press.old.run }
 {

@@ -155,14 +155,18 @@ fn load_and_run<V: Device, G: Told, C: Coins, R: Records>(
     ensures size { R.size batch.new ≡ R.size batch.old }
 {
     match load(floor, &mut tools.loader, batch) {
-        Ok(()) => make_attempts(
-            floor,
-            &mut tools.workers,
-            &mut tools.press,
-            failures,
-            coins,
-            turns,
-        ),
+        Ok(()) => {
+            let outcome = make_attempts(
+                floor,
+                &mut tools.workers,
+                &mut tools.press,
+                failures,
+                coins,
+                turns,
+            );
+            floor.keeps_its_log();
+            outcome
+        }
         Err(outcome) => outcome,
     }
 }

@@ -16,7 +16,8 @@ use Rattle.esa_floor.specs.Written.{AreItems, EachTookItsBlock, WritesFailed}
 use Rattle.esa_floor.specs.declared.floor.Roots.{Roots}
 use Rattle.esa_press.specs.Contents.{AreOutputsStored}
 use Rattle.esa_shuffle.proofs.Contents.{faithful_before, input_stays}
-use Rattle.esa_shuffle.proofs.Taking.{adds, all_written, good_turns, members_on}
+use Rattle.esa_shuffle.specs.Attempts.{EndsByStop}
+use Rattle.esa_shuffle.proofs.Taking.{adds, all_written, good_turns, members_on, stops_short}
 use Rattle.esa_shuffle.proofs.attempt.make_attempt.Goals as goal
 
 pub finish-requires-clause-all : goal.finish-requires-clause-all
@@ -33,6 +34,19 @@ returns-clause-history g c =
     c.replay.ensures.replayed c.replay.ensures.origin c.replay.ensures.stands c.replay.ensures.attempt c.requires.some c.requires.numbers
     c.finish.new.floor (ap (λ (x : Parts _). x.plan) c.finish.ensures.floor ∙ ap (λ (x : Parts _). x.plan) c.keep_log-2.ensures.same)
     (ap (λ (x : Parts _). x.history) c.finish.ensures.floor ∙ ap (λ (x : Parts _). x.history) c.keep_log-2.ensures.same) c.finish.result c.finish.ensures.ends
+
+pub returns-clause-behind : goal.returns-clause-behind
+returns-clause-behind g c =
+    let now = c.keep_log-2.new.floor in
+    let last = c.finish.new.floor in
+    stops_short g.V.Device.faults g.G.Told.plan g.G.Told.draws c.args.floor.now c.begin.new.floor c.replay.new.floor c.args.attempt c.args.turns.now
+    (c.begin.ensures.begun ∙ ap (λ (x : Parts _). begun_as x c.args.attempt) c.keep_log.ensures.same) c.begin.ensures.stands
+    c.replay.ensures.replayed c.replay.ensures.origin c.replay.ensures.stands c.replay.ensures.attempt c.requires.some c.requires.numbers
+    last (ap (λ (x : Parts _). x.plan) c.finish.ensures.floor ∙ ap (λ (x : Parts _). x.plan) c.keep_log-2.ensures.same)
+    (ap (λ (x : Parts _). x.history) c.finish.ensures.floor ∙ ap (λ (x : Parts _). x.history) c.keep_log-2.ensures.same) c.finish.result
+    (subst (λ (x : Parts _). EndsByStop x.stop c.finish.result) c.keep_log-2.ensures.same c.finish.ensures.stopped)
+    (λ there. ap (λ (x : Parts _). x.recorder) (c.finish.ensures.still (λ none. there (sym (ap (λ (x : Parts _). x.stop) c.keep_log-2.ensures.same) ∙ none)) ∙ c.keep_log-2.ensures.same))
+    (λ there. let at = c.replay.ensures.stops there in (at.0, at.1))
 
 pub returns-clause-members : goal.returns-clause-members
 returns-clause-members g c =

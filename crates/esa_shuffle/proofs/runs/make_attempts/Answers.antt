@@ -11,7 +11,8 @@ use Rattle.esa_ending.specs.Seen.{verdict_in}
 use Rattle.esa_floor.specs.declared.floor.Roots.{Roots}
 use Rattle.esa_floor.specs.declared.turn.Outcome.{Outcome}
 use Rattle.esa_model.specs.Forecast.{handed_in, made, made_in}
-use Rattle.esa_shuffle.specs.Attempts.{AddsAttempt}
+use Rattle.esa_floor.specs.Parts.{Parts}
+use Rattle.esa_shuffle.specs.Attempts.{AddsAttempt, StopsShort}
 use Rattle.esa_shuffle.specs.Runs.{MayEnd, entries_before}
 use Rattle.esa_shuffle.proofs.Running.{IsBefore, ends_cut, ends_good, leads_on, room_for}
 use Rattle.esa_shuffle.proofs.Taking.{All-full, workers_at}
@@ -36,6 +37,12 @@ added_in : (p q : Sizes) (ds : ℕ → Draw) (turns : List (List ℕ)) (a : ℕ)
 added_in p q ds turns a list old new result same is added =
     subst (λ (l : List ℕ). AddsAttempt p (full p (ds a) l) old new result) is
     (subst (λ (x : Sizes). AddsAttempt x (full x (ds a) list) old new result) same added)
+
+short_in : {V : Type 0} (p q : Sizes) (ds : ℕ → Draw) (turns : List (List ℕ)) (a : ℕ) (list : List ℕ) (g : Parts V) (result : Result Verdict VaultFault) → q ≡ p → list ≡ handed_in turns a
+    → StopsShort q a (full q (ds a) list) g result → StopsShort p a (made_in p ds turns a) g result
+short_in p q ds turns a list g result same is short =
+    subst (λ (l : List ℕ). StopsShort p a (full p (ds a) l) g result) is
+    (subst (λ (x : Sizes). StopsShort x a (full x (ds a) list) g result) same short)
 
 pub make_attempt-requires-clause-room : goal.make_attempt-requires-clause-room
 make_attempt-requires-clause-room g c =
@@ -88,6 +95,7 @@ returns-in-Err-clause-ends g c =
     (ends_cut g.V.Device.faults p ds turns a f c.make_attempt.new.floor c.loop-attempt.failures inv.before inside (ap (λ (r : Roots). r.plan) c.make_attempt.ensures.origin ∙ inv.before.plan)
     (All-full p (ds a) (handed_in turns a) (workers_at p.workers turns a c.requires.numbers)) c.in-Err.fault
     (added_in p f.plan ds turns a c.list.result.now f.history c.make_attempt.new.floor.history (Err c.in-Err.fault) inv.before.plan c.list.ensures.value c.in-Err.ensures.history)
+    (short_in p f.plan ds turns a c.list.result.now c.make_attempt.new.floor (Err c.in-Err.fault) inv.before.plan c.list.ensures.value c.in-Err.ensures.behind)
     c.in-Err.ensures.ends)
 
 pub loop-attempt-preserved : goal.loop-attempt-preserved
