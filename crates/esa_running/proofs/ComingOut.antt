@@ -1,5 +1,5 @@
 -- What the load of a shuffle was given, what became of it, and what comes out.
-use Rattle.std.proofs.Common.{◌≡◌, ◌≢◌, inl, inr, ℕ, suc, ◌*◌, ◌<◌, List, [], ◌∷◌, ◌++◌, length, map, take, get_or, Option, Some, None, Result, Err, refl, sym, ap, subst, ◌∙◌, append-nil, arith}
+use Rattle.std.proofs.Common.{◌≡◌, ◌≢◌, inl, inr, ℕ, suc, ◌*◌, ◌<◌, List, [], ◌∷◌, ◌++◌, length, map, take, get_or, Option, Some, None, Result, Err, refl, sym, ap, subst, ◌∙◌, append-nil, length-append, arith}
 use Rattle.std.specs.List.{concat}
 use Rattle.std.specs.Prelude.{All}
 use Rattle.std.proofs.lemmas.List.Elements.{All-append, All-cons, All-head, All-map, All-nil, All-tail}
@@ -12,7 +12,7 @@ use Rattle.esa_crowds.specs.Entries.{entries}
 use Rattle.esa_crowds.specs.Kept.{drops_in, sent_from}
 use Rattle.esa_crowds.specs.Rows.{kept_at}
 use Rattle.esa_crowds.proofs.SentLaws.{sent-forwarded}
-use Rattle.esa_device.specs.Logs.{Carried, IsFaithful}
+use Rattle.esa_device.specs.Logs.{Carried, IsBacked, IsFaithful}
 use Rattle.esa_device.specs.Recording.{Recorded}
 use Rattle.esa_device.proofs.LogLaws.{faithful-front}
 use Rattle.esa_ending.specs.Seen.{Seen, turns_in as turns_at}
@@ -57,7 +57,7 @@ use Rattle.esa_command.specs.Taking.{name_of}
 use Rattle.esa_running.specs.ComingOut.{batch_told, batch_part, batch_record, IsLoaded, Became, AreOfBatch, IsMadeOf, kept_of}
 use Rattle.esa_running.specs.Forwarding.{Forwards, BreaksOff}
 use Rattle.esa_running.specs.Run.{Asked}
-use Rattle.esa_running.specs.RunOwes.{EndsShuffle, fault_status}
+use Rattle.esa_running.specs.RunOwes.{EndsShuffle, IsRecorded, fault_status}
 use Rattle.esa_running.specs.Wanted.{sizes_in, turns_by, block_keys, outer_keys, drop_key}
 use Rattle.esa_running.proofs.SentLaws.{forwarded_whole, same_number}
 
@@ -149,6 +149,18 @@ none_became asked log none = record {
       subst (All Took) (sym none) (All-nil Took);
   failed = subst OnlyLastFailed (sym none) (none_but_last [] (All-nil Moved));
   written = subst (IsWrittenFrom (sizes_in asked) (block_keys asked) []) (sym none) (written_nothing (sizes_in asked) (block_keys asked));
+}
+
+-- no access is in no log
+none_in : (before after : List Carried) (entry : Carried) → [] ≡ before ++ entry ∷ after → ⊥
+none_in before after entry is = let long = ap length is in let parts = length-append before (entry ∷ after) in omega (arith, long, parts)
+
+pub none_recorded : {V : Type 0} (told : V → Option (List (List ℕ))) (p : Sizes) (now : Recorded V) → now.trace ≡ [] → now.log ≡ [] → IsRecorded told p [] now
+none_recorded told p now no_trace no_log = record {
+  plan = λ some. absurd (some refl);
+  logged = ap (map (λ (entry : Carried). entry.access)) no_log ∙ sym no_trace;
+  backed = subst (IsBacked (Some p) (told now.device)) (sym no_log)
+      (λ blocks tells. ((λ number bytes took. absurd (let never = took.1 in cc never)), (λ before after entry given written is gave took. absurd (none_in before after entry is))));
 }
 
 -- ---- what became of it
