@@ -41,6 +41,13 @@ module _ (Fact : Carried → Type 0) where
       let there : x < length log = omega (arith, long, inside) in
       subst Fact (sym (get_or-before log last x entry there)) (each x entry there)
 
+  -- behind a log of each access another one
+  pub each_append : (log more : List Carried) → All Fact log → EachButLast Fact more → EachButLast Fact (log ++ more)
+  each_append [] more each rest = rest
+  each_append (first ∷ log) more each rest zero entry inside = each zero entry (omega arith)
+  each_append (first ∷ log) more each rest (suc x) entry inside =
+      each_append log more (λ k d k_in. each (suc k) d (omega (arith, k_in))) rest x entry (omega (arith, inside))
+
   -- by any stop
   pub any_gave : (s : Option Stop) (log : List Carried) → All Fact log → ReadsGave Fact s log
   any_gave None log each = each

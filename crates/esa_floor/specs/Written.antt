@@ -1,6 +1,6 @@
 -- What the writes of a run took, of every attempt: the seals of the records of their blocks. And what its reads gave:
 -- blocks that open.
-use Rattle.std.specs.Prelude.{◌≡◌, ◌≢◌, ℕ, ◌+◌, ◌/◌, ◌%◌, ◌<◌, ◌≤◌, ◌==◌, true, List, [], ◌∷◌, ◌++◌, All, Option, Some, None, count_by, length, map, slice_index_or}
+use Rattle.std.specs.Prelude.{◌≡◌, ◌≢◌, ℕ, ◌+◌, ◌/◌, ◌%◌, ◌<◌, ◌≤◌, ◌==◌, true, List, [], ◌∷◌, ◌++◌, All, Option, Some, None, Result, Ok, Err, count_by, length, map, slice_index_or}
 use Rattle.esa_device.specs.Logs.{Carried, latest_carried}
 use Rattle.esa_envelope.specs.declared.keys.Keys.{Keys}
 use Rattle.esa_params.specs.Sizes.{Sizes}
@@ -101,6 +101,11 @@ GaveItsOwn ds f = GaveItsBlock f.plan f.run ds (attempt_turns f)
 -- a fact of each access of a log but the last
 abbrev pub EachButLast : (Carried → Type 0) → List Carried → Type 0
 EachButLast Fact log = (x : ℕ) (entry : Carried) → x + 1 < length log → Fact (slice_index_or log x entry)
+
+-- a fact of each access of a log, or of each but the last, where the last one ended it
+abbrev pub EachUntil : {T E : Type 0} → (Carried → Type 0) → Result T E → List Carried → Type 0
+EachUntil Fact (Ok done) log = All Fact log
+EachUntil Fact (Err why) log = EachButLast Fact log
 
 -- which reads gave their blocks, by the stop that there is after them: all, but the last access where it stopped there
 abbrev pub ReadsGave : (Carried → Type 0) → Option Stop → List Carried → Type 0
