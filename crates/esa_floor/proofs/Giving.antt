@@ -17,7 +17,7 @@ use Rattle.esa_floor.specs.Acts.{StopsBy}
 use Rattle.esa_floor.specs.Logging.{noted_of, read_of, write_of}
 use Rattle.esa_floor.specs.Parts.{Parts, begun_as, ended_as}
 use Rattle.esa_floor.specs.Standing.{attempt_begun, turns_made}
-use Rattle.esa_floor.specs.Written.{EachButLast, EachGaveItsBlock, GaveItsBlock, GaveItsOwn, ReadsGave, ReadsGaveTheirBlocks, attempt_turns}
+use Rattle.esa_floor.specs.Written.{EachButLast, EachGaveItsBlock, GaveItsBlock, GaveItsOwn, IsOfInput, ReadsGave, ReadsGaveTheirBlocks, WritesInput, attempt_turns}
 use Rattle.esa_floor.specs.declared.turn.Outcome.{Outcome}
 use Rattle.esa_floor.specs.declared.turn.Stop.{Stop}
 use Rattle.esa_floor.specs.declared.turn.Stop.TheVariants as stop
@@ -43,7 +43,7 @@ module _ (Fact : Carried → Type 0) where
 
   -- behind a log of each access another one
   pub each_append : (log more : List Carried) → All Fact log → EachButLast Fact more → EachButLast Fact (log ++ more)
-  each_append [] more each rest = rest
+  each_append [] more each rest x entry inside = rest x entry inside
   each_append (first ∷ log) more each rest zero entry inside = each zero entry (omega arith)
   each_append (first ∷ log) more each rest (suc x) entry inside =
       each_append log more (λ k d k_in. each (suc k) d (omega (arith, k_in))) rest x entry (omega (arith, inside))
@@ -67,9 +67,9 @@ module _ (p : Sizes) (run : Keys) (ds : ℕ → Draw) (turns : ℕ → List ℕ)
   }
 
   -- a read of a block of the input that opens
-  gave-input : (a j : ℕ) (bytes : List ℕ) → opens p run (at Input j) a 0 bytes ≡ true
+  gave-envelopes : (a j : ℕ) (bytes : List ℕ) → opens p run (at Input j) a 0 bytes ≡ true
       → Gave_its (record { access = access_of p a Reads (at Input j); bytes = Some bytes })
-  gave-input a j bytes opened = record { exchanged = λ reads. tt; opened = λ reads. (bytes, refl, opened) }
+  gave-envelopes a j bytes opened = record { exchanged = λ reads. tt; opened = λ reads. (bytes, refl, opened) }
 
   -- what a turn adds
   module _ (log : List Carried) (each : All Gave_its log) (keys : Keys) (a : ℕ) (chunks : List Item) (given : List ℕ) (before now : ℕ) where
@@ -77,7 +77,7 @@ module _ (p : Sizes) (run : Keys) (ds : ℕ → Draw) (turns : ℕ → List ℕ)
     quiet s = subst (ReadsGave Gave_its s) (sym (append-nil log)) (any_gave Gave_its s log each)
 
     gave_read : (j : ℕ) (s : Option Stop) → StopsBy p run a (Read j) given before now s → ReadsGave Gave_its s (log ++ read_of p a j s given ∷ [])
-    gave_read j None stops = All-push Gave_its log (read_of p a j None given) each (gave-input a j given stops.0)
+    gave_read j None stops = All-push Gave_its log (read_of p a j None given) each (gave-envelopes a j given stops.0)
     gave_read j (Some (stop.DeviceFault number)) stops = each_before Gave_its log (read_of p a j (Some (stop.DeviceFault number)) given) each
     gave_read j (Some (stop.Tampered number)) stops = each_before Gave_its log (read_of p a j (Some (stop.Tampered number)) given) each
     gave_read j (Some (stop.StashOverflow k)) stops = absurd stops
@@ -117,8 +117,16 @@ module _ (p : Sizes) (run : Keys) (ds : ℕ → Draw) (turns : ℕ → List ℕ)
     reads-gave_on (Some (stop.Tampered number)) log gave = but-gave_on log gave
     reads-gave_on (Some (stop.StashOverflow j)) log gave = each-gave_on log gave
 
--- where the owner's entry is added, and the log stays
+pub input_written : (p : Sizes) (log : List Carried) → All (WritesInput p) log → All (IsOfInput p) log
+input_written p log all = All-weaker (WritesInput p) (IsOfInput p) (λ entry writes. writes.of) log all
+
+-- where only the input was written, and where the owner's entry is added and the log stays
 module _ {V : Type 0} (ds : ℕ → Draw) (f : Parts V) where
+  -- what is written gives nothing
+  pub gave-input : All (WritesInput f.plan) f.recorder.log → EachGaveItsBlock ds f
+  gave-input all =
+      All-weaker (WritesInput f.plan) (GaveItsOwn ds f) (λ entry of. gave-write f.plan f.run ds (attempt_turns f) entry of.writes) f.recorder.log all
+
   same_turns : (a : ℕ) → GoOn 0 (attempt_turns f a) (turns_at f.plan.workers (f.history ++ f.plan.workers ∷ []) a)
   same_turns a = inl (turns-owner f.plan.workers f.history a)
 
@@ -126,10 +134,8 @@ module _ {V : Type 0} (ds : ℕ → Draw) (f : Parts V) where
   gave-begun attempt gave =
       each-gave_on f.plan f.run ds (attempt_turns f) (attempt_turns (begun_as f attempt)) 0 same_turns f.recorder.log gave
 
-  pub gave-ended : (outcome : Outcome) (s : Option Stop) → ReadsGave (GaveItsOwn ds f) s f.recorder.log
-      → ReadsGave (GaveItsOwn ds (ended_as f outcome)) s f.recorder.log
-  gave-ended outcome s gave =
-      reads-gave_on f.plan f.run ds (attempt_turns f) (attempt_turns (ended_as f outcome)) 0 same_turns s f.recorder.log gave
+  pub gave-ended : (outcome : Outcome) (entry : Carried) → GaveItsOwn ds f entry → GaveItsOwn ds (ended_as f outcome) entry
+  gave-ended outcome = gave-on f.plan f.run ds (attempt_turns f) (attempt_turns (ended_as f outcome)) 0 same_turns
 
 -- the reads of a floor after a turn
 module _ {V : Type 0} (f new : Parts V) (n room : ℕ) (keys : Keys) (chunks : List Item) (faults : V → ℕ) (ds : ℕ → Draw) (worker : n ≢ f.plan.workers)

@@ -73,6 +73,11 @@ pub record IsOfInput (p : Sizes) (entry : Carried) : Type 0 where
   pub region : entry.access.region ≡ Input
   pub planned : entry.access.index < p.b
 
+-- a write of one
+pub record WritesInput (p : Sizes) (entry : Carried) : Type 0 where
+  pub of : IsOfInput p entry
+  pub writes : entry.access.op ≡ Writes
+
 -- the latest write of a slot is this access, and took these bytes
 abbrev pub IsLatest : {V : Type 0} → Parts V → Slot → Access → List ℕ → Type 0
 IsLatest f slot access bytes = latest_carried f.plan (number_of f.plan slot) f.recorder.log ≡ Some (record { access = access; bytes = Some bytes })

@@ -9,7 +9,7 @@ ghost use Rattle.esa_spec.specs.Draws.{IsDrawn};
 ghost use Rattle.esa_spec.specs.Turns.{order};
 ghost use Rattle.esa_stash.specs.Stash.{queue_at};
 ghost use Rattle.esa_report.specs.declared.item.Item.{Item};
-ghost use Rattle.esa_press.specs.Contents.{AreQueued, AreTailsStored, EndsWriting};
+ghost use Rattle.esa_press.specs.Contents.{AreQueued, AreTailsStored, EndsWriting, GoesOnGiving};
 ghost use Rattle.esa_press.specs.Drained.{DrainEnd};
 ghost use Rattle.esa_press.specs.Stepped.{AreCounted};
 

@@ -4,7 +4,7 @@ use Rattle.esa_device.specs.Logs.{Carried, IsFaithful}
 use Rattle.esa_ending.specs.Seen.{turns_in}
 use Rattle.esa_envelope.specs.declared.keys.Keys.{Keys}
 use Rattle.esa_floor.specs.Private.{item_opened}
-use Rattle.esa_floor.specs.Written.{NoWriteFailed, OnlyLastFailed, TookItsBlock}
+use Rattle.esa_floor.specs.Written.{EachButLast, GaveItsBlock, NoWriteFailed, OnlyLastFailed, TookItsBlock}
 use Rattle.esa_floor.specs.declared.turn.Outcome.{Outcome}
 use Rattle.esa_floor.specs.declared.turn.Outcome.TheVariants as outcome
 use Rattle.esa_params.specs.Form.{envelope_length}
@@ -26,6 +26,14 @@ WritesOf (outcome.DeviceFault number) log = OnlyLastFailed log
 WritesOf (outcome.Tampered number) log = NoWriteFailed log
 WritesOf outcome.BatchFailed log = NoWriteFailed log
 
+-- which reads of a run gave their blocks, by its outcome: all, but the last access where the run stopped at it
+abbrev pub ReadsOf : (Carried → Type 0) → Outcome → List Carried → Type 0
+ReadsOf Fact (outcome.Shuffled a) log = All Fact log
+ReadsOf Fact outcome.Overflow log = All Fact log
+ReadsOf Fact (outcome.DeviceFault number) log = EachButLast Fact log
+ReadsOf Fact (outcome.Tampered number) log = EachButLast Fact log
+ReadsOf Fact outcome.BatchFailed log = All Fact log
+
 -- what a run with this outcome made of the bytes that its batch gave, where the log of its accesses is faithful: hs are the
 -- turns of its attempts, and those that were made are in the history
 pub record IsShuffledFrom (p : Sizes) (ds : ℕ → Draw) (hs : List (List ℕ)) (outer run : Keys) (history : List ℕ) (log : List Carried) (o : Outcome) (given : List ℕ) : Type 0 where
@@ -36,6 +44,8 @@ pub record IsShuffledFrom (p : Sizes) (ds : ℕ → Draw) (hs : List (List ℕ))
   -- the one at which the device failed
   pub took : IsFaithful p log → All (TookItsBlock p run ds (record_at p outer given) (turns_in (lists p.workers history))) log
   pub failed : WritesOf o log
+  -- and each read gave its block, whether the log is faithful or not
+  pub gave : ReadsOf (GaveItsBlock p run ds (turns_in (lists p.workers history))) o log
 
 -- the records of the batch, by the bytes that it gave
 abbrev pub records_given : Sizes → Keys → List ℕ → List Item
