@@ -92,12 +92,17 @@ abbrev pub output_seal : Sizes → Keys → ℕ → Draw → (ℕ → Item) → 
 output_seal p run a d record_of h j = sealed_block p run (at Output j) a (text_of (item_length p.form) (map record_of (output_places p d h j)))
 
 -- a read gave bytes, and they open for its slot and its attempt, with so many items before the dummies as the turns of the
--- attempt put there. No turn more changes it, since what they are of was exchanged
+-- attempt put there
+abbrev pub GaveWhatOpens : Sizes → Keys → (ℕ → Draw) → (ℕ → List ℕ) → Carried → Type 0
+GaveWhatOpens p run ds turns entry =
+    entry.access.op ≡ Reads → (bytes : List ℕ) × (entry.bytes ≡ Some bytes)
+    × (opens p run (at entry.access.region entry.access.index) entry.access.attempt
+    (items_in p (ds entry.access.attempt) (order p.b (turns entry.access.attempt)) entry.access) bytes ≡ true)
+
+-- no turn more changes that, since what the items come from was exchanged
 pub record GaveItsBlock (p : Sizes) (run : Keys) (ds : ℕ → Draw) (turns : ℕ → List ℕ) (entry : Carried) : Type 0 where
   pub exchanged : entry.access.op ≡ Reads → AreExchanged p (turns entry.access.attempt) entry.access.region entry.access.index
-  pub opened : entry.access.op ≡ Reads → (bytes : List ℕ) × (entry.bytes ≡ Some bytes)
-      × (opens p run (at entry.access.region entry.access.index) entry.access.attempt
-      (items_in p (ds entry.access.attempt) (order p.b (turns entry.access.attempt)) entry.access) bytes ≡ true)
+  pub opened : GaveWhatOpens p run ds turns entry
 
 -- so it is with an access of a floor
 abbrev pub GaveItsOwn : {V : Type 0} → (ℕ → Draw) → Parts V → Carried → Type 0

@@ -120,6 +120,7 @@ stored_after p keys slot attempt n old new records on stored = record {
 
 module _ {V T : Type 0} (told : V → Option (List (List ℕ))) (faults : V → ℕ) (last_call : V → Option (Op × ℕ)) (p : Sizes) (keys : Keys) (a i : ℕ) (counts : List ℕ) where
   pub fetched_none : (old : Recorded V) (done : T) → IsFetched faults p keys a i counts 0 old old (Ok done)
+  unfolding reads_none
   fetched_none old done = record {
     made = 0;
     few = omega arith;
@@ -171,6 +172,7 @@ module _ {V T : Type 0} (told : V → Option (List (List ℕ))) (faults : V → 
       → IsFetched faults p keys a i counts x old mid (Ok done)
       → IsRead told faults last_call p (part_slot p i x) a (opens p keys (part_slot p i x) a (slice_index counts x)) bytes mid new result
       → IsFetched faults p keys a i counts (x + 1) old new result
+  unfolding reads_more
   fetched_next x old mid new done bytes result inside so_far read =
       let before : so_far.made ≡ x = so_far.answer.0 in
       record {
