@@ -195,3 +195,6 @@ returns-in-Err-clause-reads g c = λ gave.
 
 pub returns-clause-reads : goal.returns-clause-reads
 returns-clause-reads g c = c.loop-attempt.invariant.reads
+
+pub returns-then-is_good-clause-writes : goal.returns-then-is_good-clause-writes
+returns-then-is_good-clause-writes g c = λ none. c.in-Ok.ensures.writes (c.loop-attempt.invariant.writes none)
