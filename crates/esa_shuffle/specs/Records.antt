@@ -4,7 +4,7 @@ use Rattle.esa_device.specs.Logs.{Carried, IsFaithful}
 use Rattle.esa_ending.specs.Seen.{turns_in}
 use Rattle.esa_envelope.specs.declared.keys.Keys.{Keys}
 use Rattle.esa_floor.specs.Private.{item_opened}
-use Rattle.esa_floor.specs.Written.{NoWriteFailed, OnlyLastFailed, TookItsBlock}
+use Rattle.esa_floor.specs.Written.{EachButLast, GaveItsBlock, NoWriteFailed, OnlyLastFailed, TookItsBlock}
 use Rattle.esa_floor.specs.declared.turn.Outcome.{Outcome}
 use Rattle.esa_floor.specs.declared.turn.Outcome.TheVariants as outcome
 use Rattle.esa_load.specs.Loads.{bucket_text}
@@ -58,6 +58,13 @@ TookItsBucket p run given entry =
 pub record IsWrittenFrom (p : Sizes) (run : Keys) (given : List ℕ) (log : List Carried) : Type 0 where
   pub took : All (TookItsBucket p run given) log
   pub count : length given ≡ envelope_length p.form * first p (inputs_written log)
+-- which reads of a run gave their blocks, by its outcome: all, but the last access where the run stopped at it
+abbrev pub ReadsOf : (Carried → Type 0) → Outcome → List Carried → Type 0
+ReadsOf Fact (outcome.Shuffled a) log = All Fact log
+ReadsOf Fact outcome.Overflow log = All Fact log
+ReadsOf Fact (outcome.DeviceFault number) log = EachButLast Fact log
+ReadsOf Fact (outcome.Tampered number) log = EachButLast Fact log
+ReadsOf Fact outcome.BatchFailed log = All Fact log
 
 -- what a run with this outcome made of the bytes that its batch gave, where the log of its accesses is faithful: hs are the
 -- turns of its attempts, and those that were made are in the history
@@ -71,6 +78,8 @@ pub record IsShuffledFrom (p : Sizes) (ds : ℕ → Draw) (hs : List (List ℕ))
   pub failed : WritesOf o log
   -- of the input that is so whatever the device did
   pub written : IsWrittenFrom p run given log
+  -- and each read gave its block, whether the log is faithful or not
+  pub gave : ReadsOf (GaveItsBlock p run ds (turns_in (lists p.workers history))) o log
 
 -- the records of the batch, by the bytes that it gave
 abbrev pub records_given : Sizes → Keys → List ℕ → List Item

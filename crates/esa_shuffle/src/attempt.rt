@@ -7,7 +7,7 @@ ghost use Rattle.esa_floor.specs.Keeping.{HasInput};
 ghost use Rattle.esa_floor.specs.Marks.{roots_of};
 ghost use Rattle.esa_floor.specs.Parts.{begun_as};
 ghost use Rattle.esa_floor.specs.Standing.{Stands};
-ghost use Rattle.esa_floor.specs.Written.{AreItems, EachTookItsBlock, NoWriteFailed};
+ghost use Rattle.esa_floor.specs.Written.{AreItems, EachGaveItsBlock, EachTookItsBlock, EachUntil, GaveItsOwn, NoWriteFailed};
 ghost use Rattle.esa_params.specs.Slots.{item_length};
 ghost use Rattle.esa_press.specs.Contents.{AreOrders, AreOutputsStored};
 ghost use Rattle.esa_report.specs.declared.item.Item.{Item};
@@ -65,6 +65,7 @@ pub(crate) fn make_attempt<V: Device, G: Told, C: Coins>(
     ensures took { (record_of : ℕ → Item) → AreItems (item_length floor.old.plan.form) record_of
         → EachTookItsBlock G.draws record_of floor.old → EachTookItsBlock G.draws record_of floor.new }
     ensures writes { NoWriteFailed floor.old.recorder.log → WritesEnd result floor.new.recorder.log }
+    ensures reads { EachGaveItsBlock G.draws floor.old → EachUntil (GaveItsOwn G.draws floor.new) result floor.new.recorder.log }
     ensures origin { roots_of floor.new ≡ roots_of floor.old }
     ensures outcome { floor.new.outcome ≡ None }
     ensures members { AreMembers G.draws C.target_list floor.new workers.new }

@@ -5,7 +5,8 @@ use mathlib.Core.List.{IsPrefix}
 use Rattle.esa_params.specs.Form.{envelope_length}
 use Rattle.esa_params.specs.Sizes.{Sizes, first}
 use Rattle.esa_floor.specs.Parts.{Parts}
-use Rattle.esa_floor.specs.Written.{IsOfInput}
+use Rattle.esa_floor.specs.Written.{WritesInput}
+use Rattle.esa_floor.proofs.Giving.{gave-input, input_written}
 use Rattle.esa_floor.proofs.Writing.{took-input}
 use Rattle.esa_spec.specs.Histories.{begun}
 use Rattle.esa_shuffle.specs.Loading.{HasGiven, TakesBatch}
@@ -37,10 +38,14 @@ make_attempts-over-requires-clause-posts g c = λ lives outlive k d inside.
     g.V.Device.faults g.G.Told.draws g.C.Coins.target_list c.args.turnstile.now k _ (c.requires.posts k d inside)
 
 pub make_attempts-over-requires-clause-took : goal.make_attempts-over-requires-clause-took
-make_attempts-over-requires-clause-took g c = λ lives outlive record_of items. took-input g.G.Told.draws record_of c.load.new.floor (c.load.ensures.input c.requires.log)
+make_attempts-over-requires-clause-took g c = λ lives outlive record_of items. took-input g.G.Told.draws record_of c.load.new.floor
+    (input_written c.load.new.floor.plan c.load.new.floor.recorder.log (c.load.ensures.input c.requires.log))
 
 pub make_attempts-over-requires-clause-writes : goal.make_attempts-over-requires-clause-writes
 make_attempts-over-requires-clause-writes g c = λ lives outlive. c.in-Ok.ensures.writes c.requires.log
+
+pub make_attempts-over-requires-clause-reads : goal.make_attempts-over-requires-clause-reads
+make_attempts-over-requires-clause-reads g c = λ lives outlive. gave-input g.G.Told.draws c.load.new.floor (c.load.ensures.input c.requires.log)
 
 -- nobody had come before the attempts
 none_came : (g : Over) (c : After-make_attempts-over g) → length c.args.held.value.history ≡ 0
@@ -91,7 +96,7 @@ returns-in-Ok-clause-given g c =
       became = shuffled_from p ds (lists_ended p last) f.outer f.run c.load.new.floor last o has.given (ap (λ (x : Parts _). x.plan) c.load.ensures.floor ∙ c.requires.new.stands.of.plan)
           (ap (λ (x : Parts _). x.outer) c.load.ensures.floor) (ap (λ (x : Parts _). x.run) c.load.ensures.floor) done.origin
           (has.load.bytes ∙ ap (λ (n : ℕ). envelope_length p.form * first p n) (has.load.whole refl)) done.log has.became.input
-          done.outputs done.input (λ record_of items before. done.took record_of items) (c.load.ensures.input c.requires.log) done.writes
+          done.outputs done.input (λ record_of items before. done.took record_of items) (c.load.ensures.input c.requires.log) done.writes (λ before. done.reads)
           (written_from p ds (lists_ended p last) f.outer f.run c.load.new.floor last o has.given (ap (λ (x : Parts _). x.plan) c.load.ensures.floor ∙ c.requires.new.stands.of.plan)
           (ap (λ (x : Parts _). x.outer) c.load.ensures.floor) (ap (λ (x : Parts _). x.run) c.load.ensures.floor) done.origin
           (has.load.bytes ∙ ap (λ (n : ℕ). envelope_length p.form * first p n) (has.load.whole refl)) done.log has.became.input
@@ -163,7 +168,7 @@ returns-in-Err-clause-given g c =
       given = has.given;
       load = given_where p told part before after (false ≡ true) (h ≢ []) has.given (λ some. absurd (some gone)) has.load;
       became = not_shuffled p g.G.Told.draws (lists_ended p (behind (length f.history) loaded)) f.outer f.run (h ++ p.workers ∷ []) log c.in-Err.outcome has.given c.in-Err.ensures.ends.2
-          (subst (λ (q : Sizes). All (IsOfInput q) log) (ap (λ (x : Parts _). x.plan) c.load.ensures.floor ∙ c.requires.new.stands.of.plan) (c.load.ensures.input c.requires.log))
+          (subst (λ (q : Sizes). All (WritesInput q) log) (ap (λ (x : Parts _). x.plan) c.load.ensures.floor ∙ c.requires.new.stands.of.plan) (c.load.ensures.input c.requires.log))
           (c.in-Err.ensures.writes c.requires.log)
           (written_by loaded.plan p loaded.run f.run has.given log (ap (λ (x : Parts _). x.plan) c.load.ensures.floor ∙ c.requires.new.stands.of.plan)
           (ap (λ (x : Parts _). x.run) c.load.ensures.floor) (has.became.written c.requires.log));

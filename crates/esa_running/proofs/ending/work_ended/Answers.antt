@@ -4,6 +4,7 @@ use Rattle.esa_shuffle.specs.Runs.{seen_of}
 use Rattle.esa_running.specs.ComingOut.{IsMadeOf}
 use Rattle.esa_running.specs.RunTaken.{run_taken}
 use Rattle.esa_running.specs.Wanted.{sizes_in, turns_by}
+use Rattle.esa_running.proofs.ComingOut.{made_opens}
 use Rattle.esa_running.proofs.RanEnds.{Ended, overflowed, failed_at, tampered_at, unloaded, few_failures}
 use Rattle.esa_running.proofs.Rooms.{scans_room}
 use Rattle.esa_running.proofs.ending.work_ended.Goals as goal
@@ -47,7 +48,7 @@ returns-in-Overflow-clause-works g c = λ device batch given met made.
     let last = c.args.recorder.now.last in
     let e = subst (Ended asked seen last c.args.failures.now) c.in-Overflow.is met in
     let m = subst (λ o. IsMadeOf asked c.args.history.now c.args.recorder.now.log o given) c.in-Overflow.is made in
-    (_, inr (inl (overflowed asked seen last c.args.failures.now c.failures_of.result c.failures_of.ensures e)), record { took = m.shuffled.took; failed = m.shuffled.failed; written = m.shuffled.written }, c.work_failed.ensures)
+    (_, inr (inl (overflowed asked seen last c.args.failures.now c.failures_of.result c.failures_of.ensures e)), record { took = m.shuffled.took; failed = m.shuffled.failed; written = m.shuffled.written; gave = made_opens asked given c.args.history.now c.args.recorder.now.log _ m }, c.work_failed.ensures)
 
 pub returns-in-DeviceFault-clause-works : goal.returns-in-DeviceFault-clause-works
 returns-in-DeviceFault-clause-works g c = λ device batch given met made.
@@ -56,7 +57,7 @@ returns-in-DeviceFault-clause-works g c = λ device batch given met made.
     let last = c.args.recorder.now.last in
     let e = subst (Ended asked seen last c.args.failures.now) c.in-DeviceFault.is met in
     let m = subst (λ o. IsMadeOf asked c.args.history.now c.args.recorder.now.log o given) c.in-DeviceFault.is made in
-    (_, inr (inr (inl (failed_at asked seen last c.args.failures.now c.in-DeviceFault.slot e))), record { took = m.shuffled.took; failed = m.shuffled.failed; written = m.shuffled.written }, c.work_failed-in-DeviceFault.ensures)
+    (_, inr (inr (inl (failed_at asked seen last c.args.failures.now c.in-DeviceFault.slot e))), record { took = m.shuffled.took; failed = m.shuffled.failed; written = m.shuffled.written; gave = made_opens asked given c.args.history.now c.args.recorder.now.log _ m }, c.work_failed-in-DeviceFault.ensures)
 
 pub returns-in-Tampered-clause-works : goal.returns-in-Tampered-clause-works
 returns-in-Tampered-clause-works g c = λ device batch given met made.
@@ -65,7 +66,7 @@ returns-in-Tampered-clause-works g c = λ device batch given met made.
     let last = c.args.recorder.now.last in
     let e = subst (Ended asked seen last c.args.failures.now) c.in-Tampered.is met in
     let m = subst (λ o. IsMadeOf asked c.args.history.now c.args.recorder.now.log o given) c.in-Tampered.is made in
-    (_, inr (inr (inr (inl (tampered_at asked seen last c.args.failures.now c.in-Tampered.slot e)))), record { took = m.shuffled.took; failed = m.shuffled.failed; written = m.shuffled.written }, c.work_failed-in-Tampered.ensures)
+    (_, inr (inr (inr (inl (tampered_at asked seen last c.args.failures.now c.in-Tampered.slot e)))), record { took = m.shuffled.took; failed = m.shuffled.failed; written = m.shuffled.written; gave = made_opens asked given c.args.history.now c.args.recorder.now.log _ m }, c.work_failed-in-Tampered.ensures)
 
 pub returns-in-BatchFailed-clause-works : goal.returns-in-BatchFailed-clause-works
 returns-in-BatchFailed-clause-works g c = λ device batch given met made.
@@ -74,4 +75,4 @@ returns-in-BatchFailed-clause-works g c = λ device batch given met made.
     let last = c.args.recorder.now.last in
     let e = subst (Ended asked seen last c.args.failures.now) c.in-BatchFailed.is met in
     let m = subst (λ o. IsMadeOf asked c.args.history.now c.args.recorder.now.log o given) c.in-BatchFailed.is made in
-    (_, inr (inr (inr (inr (inl (unloaded asked seen last c.args.failures.now e))))), record { took = m.shuffled.took; failed = m.shuffled.failed; written = m.shuffled.written }, c.work_unloaded.ensures)
+    (_, inr (inr (inr (inr (inl (unloaded asked seen last c.args.failures.now e))))), record { took = m.shuffled.took; failed = m.shuffled.failed; written = m.shuffled.written; gave = made_opens asked given c.args.history.now c.args.recorder.now.log _ m }, c.work_unloaded.ensures)

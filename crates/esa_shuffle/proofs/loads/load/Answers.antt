@@ -1,7 +1,7 @@
 -- The load ends the run, or the first attempt may begin.
 use Rattle.std.proofs.Common.{◌+◌, ◌++◌, ◌∷◌, [], All, Ok, Err, sym, subst, arith}
 use Rattle.esa_floor.specs.declared.turn.Outcome.TheVariants as outcome
-use Rattle.esa_floor.specs.Written.{IsOfInput, NoWriteFailed, OnlyLastFailed}
+use Rattle.esa_floor.specs.Written.{NoWriteFailed, OnlyLastFailed, WritesInput}
 use Rattle.esa_load.specs.Loads.{LoadEnd, Source, failed_block, written_blocks}
 use Rattle.esa_load.specs.declared.fault.LoadFault.{LoadFault}
 use Rattle.esa_load.specs.declared.fault.LoadFault.TheVariants.{Batch, Device}
@@ -124,7 +124,7 @@ returns-in-Ok-clause-input g c = λ empty.
     let end = moved faults g.G.Told.plan g.G.Told.draws f c.requires.new r told part given before after c.args.loader.now.plan c.args.loader.now.run c.recorder.result.now (Ok c.in-Ok.field-0) c.requires.plan c.requires.run
     c.recorder.ensures.value c.in-Ok.ensures.end.1 in
     let is = log_is faults g.G.Told.plan g.G.Told.draws f c.requires.new r told part given before after f.plan.b (written_blocks f.plan f.run given f.plan.b) end.0 empty in
-    subst (All (IsOfInput f.plan)) (sym is) (loaded_input f.plan f.run given f.plan.b (omega arith))
+    subst (All (WritesInput f.plan)) (sym is) (loaded_input f.plan f.run given f.plan.b (omega arith))
 
 pub returns-in-Ok-clause-writes : goal.returns-in-Ok-clause-writes
 returns-in-Ok-clause-writes g c = λ empty.
@@ -159,7 +159,7 @@ returns-in-Err-Batch-clause-input g c = λ empty.
     c.in-Err-Batch.ensures.end.1) in
     let inside = end.0 in
     let is = log_is faults g.G.Told.plan g.G.Told.draws f c.requires.new r told part given before after j (written_blocks f.plan f.run given j) end.1 empty in
-    subst (All (IsOfInput f.plan)) (sym is) (loaded_input f.plan f.run given j (omega (arith, inside)))
+    subst (All (WritesInput f.plan)) (sym is) (loaded_input f.plan f.run given j (omega (arith, inside)))
 
 pub returns-in-Err-Batch-clause-writes : goal.returns-in-Err-Batch-clause-writes
 returns-in-Err-Batch-clause-writes g c = λ empty.
@@ -198,7 +198,7 @@ returns-in-Err-Device-clause-input g c = λ empty.
     c.in-Err-Device.ensures.end.1) in
     let j = end.0 in
     let is = log_is faults g.G.Told.plan g.G.Told.draws f c.requires.new r told part given before after (j + 1) (written_blocks f.plan f.run given j ++ failed_block f.plan j ∷ []) end.3 empty in
-    subst (All (IsOfInput f.plan)) (sym is) (failed_input f.plan f.run given j end.1)
+    subst (All (WritesInput f.plan)) (sym is) (failed_input f.plan f.run given j end.1)
 
 pub returns-in-Err-Device-clause-writes : goal.returns-in-Err-Device-clause-writes
 returns-in-Err-Device-clause-writes g c = λ empty.

@@ -23,12 +23,13 @@ use Rattle.esa_envelope.specs.declared.keys.Keys.{Keys}
 use Rattle.esa_params.specs.Slots.{item_length}
 use Rattle.esa_ending.specs.Seen.{turns_in}
 use Rattle.esa_ending.proofs.FrontLaws.{onward}
-use Rattle.esa_floor.specs.Written.{AreItems}
+use Rattle.esa_floor.specs.Written.{AreItems, GaveItsOwn}
 use Rattle.esa_press.specs.Contents.{AreOutputsStored}
 use Rattle.esa_shuffle.proofs.Contents.{faithful_before}
 use Rattle.esa_shuffle.proofs.Stopped.{good_is}
+use Rattle.esa_shuffle.proofs.Giving.{cut_gave}
 use Rattle.esa_shuffle.proofs.Taken.{cut_short, cut_writes}
-use Rattle.esa_shuffle.specs.Records.{WritesOf}
+use Rattle.esa_shuffle.specs.Records.{ReadsOf, WritesOf}
 use Rattle.esa_shuffle.proofs.runs.make_attempts.Goals as goal
 
 -- the turns that an attempt adds are those of its list, completed
@@ -125,6 +126,7 @@ loop-attempt-preserved g c =
           (inv.input record_of (faithful_before p f.recorder.log c.make_attempt.new.floor.recorder.log done.log faithful) input);
       took = λ record_of items took. done.took record_of (subst (λ (q : Sizes). AreItems (item_length q.form) record_of) (sym inv.before.plan) items) (inv.took record_of items took);
       writes = λ none. c.in-Ok.ensures.writes (inv.writes none);
+      reads = λ gave. c.in-Ok.ensures.reads (inv.reads gave);
       origin = done.origin ∙ inv.origin;
     }
 
@@ -189,3 +191,18 @@ pub returns-in-Err-clause-writes : goal.returns-in-Err-clause-writes
 returns-in-Err-clause-writes g c = λ none.
     subst (λ (o : Outcome). WritesOf o c.make_attempt.new.floor.recorder.log) (sym c.outcome_by.ensures)
     (cut_writes c.in-Err.fault c.make_attempt.new.floor.recorder.log (c.in-Err.ensures.writes (c.loop-attempt.invariant.writes none)))
+
+pub returns-then-is_good-clause-reads : goal.returns-then-is_good-clause-reads
+returns-then-is_good-clause-reads g c = λ gave. c.in-Ok.ensures.reads (c.loop-attempt.invariant.reads gave)
+
+pub returns-in-Err-clause-reads : goal.returns-in-Err-clause-reads
+returns-in-Err-clause-reads g c = λ gave.
+    let new = c.make_attempt.new.floor in
+    subst (λ (o : Outcome). ReadsOf (GaveItsOwn g.G.Told.draws new) o new.recorder.log) (sym c.outcome_by.ensures)
+    (cut_gave (GaveItsOwn g.G.Told.draws new) c.in-Err.fault new.recorder.log (c.in-Err.ensures.reads (c.loop-attempt.invariant.reads gave)))
+
+pub returns-clause-reads : goal.returns-clause-reads
+returns-clause-reads g c = c.loop-attempt.invariant.reads
+
+pub returns-then-is_good-clause-writes : goal.returns-then-is_good-clause-writes
+returns-then-is_good-clause-writes g c = λ none. c.in-Ok.ensures.writes (c.loop-attempt.invariant.writes none)
