@@ -58,6 +58,7 @@ TookItsBucket p run given entry =
 pub record IsWrittenFrom (p : Sizes) (run : Keys) (given : List ℕ) (log : List Carried) : Type 0 where
   pub took : All (TookItsBucket p run given) log
   pub count : length given ≡ envelope_length p.form * first p (inputs_written log)
+
 -- which reads of a run gave their blocks, by its outcome: all, but the last access where the run stopped at it
 abbrev pub ReadsOf : (Carried → Type 0) → Outcome → List Carried → Type 0
 ReadsOf Fact (outcome.Shuffled a) log = All Fact log
