@@ -4,7 +4,7 @@ ghost use Rattle.std.specs.Prelude.{◌≡◌, ℕ, ◌<◌, [], length};
 ghost use Rattle.esa_floor.specs.Keeping.{QueuesHold, SlotsHold};
 ghost use Rattle.esa_floor.specs.Parts.{begun_as};
 ghost use Rattle.esa_floor.specs.Standing.{Stands, turns_made};
-ghost use Rattle.esa_floor.specs.Written.{EachTookItsBlock};
+ghost use Rattle.esa_floor.specs.Written.{EachGaveItsBlock, EachTookItsBlock};
 ghost use Rattle.esa_report.specs.declared.item.Item.{Item};
 ghost use Rattle.esa_crew.specs.Posts.{AllHold, AreMembers, ArePosts};
 
@@ -30,6 +30,7 @@ pub fn begin<V: Device, G: Told, C: Coins>(
     ensures hold { AllHold G.draws floor.new workers.new }
     ensures queues { QueuesHold G.draws floor.new }
     ensures slots { SlotsHold G.draws floor.new }
+    ensures reads { EachGaveItsBlock G.draws floor.old → EachGaveItsBlock G.draws floor.new }
     ensures took { (record_of : ℕ → Item) → EachTookItsBlock G.draws record_of floor.old → EachTookItsBlock G.draws record_of floor.new }
 {
     floor.begin(attempt);

@@ -9,7 +9,7 @@ ghost use Rattle.esa_floor.specs.Keeping.{HoldsAfter, QueuesHold, QueuesHoldAfte
 ghost use Rattle.esa_floor.specs.Marks.{roots_of};
 ghost use Rattle.esa_floor.specs.Standing.{Stands, attempt_begun, turns_made};
 ghost use Rattle.esa_floor.specs.Working.{Working};
-ghost use Rattle.esa_floor.specs.Written.{EachTookItsBlock, WritesFailed};
+ghost use Rattle.esa_floor.specs.Written.{EachTookItsBlock, ReadsGaveTheirBlocks, WritesFailed};
 ghost use Rattle.esa_report.specs.declared.item.Item.{Item};
 ghost use Rattle.esa_crew.specs.Posts.{AllHold, ArePosts, IsPost, KeepsRecords, OthersHoldAfter};
 ghost use Rattle.esa_crew.specs.Replays.{IsReplayed};
@@ -45,6 +45,7 @@ fn step<V: Device, G: Told, C: Coins>(floor: &mut Floor<V, G>, worker: &mut Work
         → EachTookItsBlock G.draws record_of floor.new }
     ensures log { Begins floor.old.recorder.log floor.new.recorder.log }
     ensures writes { WritesFailed floor.old.stop floor.old.recorder.log → WritesFailed floor.new.stop floor.new.recorder.log }
+    ensures reads { ReadsGaveTheirBlocks G.draws floor.old → ReadsGaveTheirBlocks G.draws floor.new }
     ensures stops { floor.new.stop ≢ None → StopsAfter V.faults G.draws (turns_made floor.old) floor.new }
     ensures queues_before { floor.new.stop ≢ None → QueuesHold G.draws floor.old → QueuesHoldAfter G.draws (turns_made floor.old) floor.new }
     ensures slots_before { floor.new.stop ≢ None → SlotsHold G.draws floor.old → SlotsHoldAfter G.draws (turns_made floor.old) floor.new }
@@ -83,6 +84,7 @@ fn step_of<V: Device, G: Told, C: Coins>(
         → EachTookItsBlock G.draws record_of floor.new }
     ensures log { Begins floor.old.recorder.log floor.new.recorder.log }
     ensures writes { WritesFailed floor.old.stop floor.old.recorder.log → WritesFailed floor.new.stop floor.new.recorder.log }
+    ensures reads { ReadsGaveTheirBlocks G.draws floor.old → ReadsGaveTheirBlocks G.draws floor.new }
     ensures stops { floor.new.stop ≢ None → StopsAfter V.faults G.draws (turns_made floor.old) floor.new }
     ensures queues_before { floor.new.stop ≢ None → QueuesHold G.draws floor.old → QueuesHoldAfter G.draws (turns_made floor.old) floor.new }
     ensures slots_before { floor.new.stop ≢ None → SlotsHold G.draws floor.old → SlotsHoldAfter G.draws (turns_made floor.old) floor.new }
@@ -129,6 +131,7 @@ pub fn replay<V: Device, G: Told, C: Coins>(
         → EachTookItsBlock G.draws record_of floor.new }
     ensures log { Begins floor.old.recorder.log floor.new.recorder.log }
     ensures writes { WritesFailed floor.old.stop floor.old.recorder.log → WritesFailed floor.new.stop floor.new.recorder.log }
+    ensures reads { ReadsGaveTheirBlocks G.draws floor.old → ReadsGaveTheirBlocks G.draws floor.new }
     ensures stops { floor.new.stop ≢ None → (before : List ℕ) × StopsAfter V.faults G.draws before floor.new
         × (AllHold G.draws floor.old workers.old → QueuesHold G.draws floor.old → SlotsHold G.draws floor.old
         → QueuesHoldAfter G.draws before floor.new × SlotsHoldAfter G.draws before floor.new) }

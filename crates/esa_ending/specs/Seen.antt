@@ -1,5 +1,5 @@
 -- What is seen of a run, and the words in which its ends are told.
-use Rattle.std.specs.Prelude.{◌≡◌, ℕ, ◌<◌, List, [], ◌∷◌, ◌++◌, filter_map, flat_map, slice_get, slice_index_or}
+use Rattle.std.specs.Prelude.{◌≡◌, ◌≢◌, ◌⊎◌, ℕ, ◌-◌, ◌<◌, List, [], ◌∷◌, ◌++◌, filter_map, flat_map, length, slice_get, slice_index_or, Some}
 use Rattle.esa_outside.specs.Cause.{Rose}
 use Rattle.esa_params.specs.Sizes.{Sizes}
 use Rattle.esa_params.specs.declared.slot.Access.{Access}
@@ -7,6 +7,8 @@ use Rattle.esa_spec.specs.Draws.{Draw}
 use Rattle.esa_spec.specs.Fronts.{Begins}
 use Rattle.esa_spec.specs.Histories.{lists}
 use Rattle.esa_spec.specs.Places.{places}
+use Rattle.esa_spec.specs.Traces.{asked}
+use Rattle.esa_spec.specs.Turns.{next}
 use Rattle.esa_spec.specs.Verdicts.{verdict}
 use Rattle.esa_spec.specs.declared.event.Verdict.{Verdict}
 
@@ -57,6 +59,23 @@ AreCut (h ∷ other ∷ made) (g ∷ whole) = (h ≡ g) × AreCut (other ∷ mad
 -- the turns of attempt a
 abbrev pub turns_in : List (List ℕ) → ℕ → List ℕ
 turns_in hs a = slice_index_or hs a []
+
+-- the last of the turns h of attempt a made this access
+pub record EndsWithTurn (p : Sizes) (a : ℕ) (h : List ℕ) (access : Access) : Type 0 where
+  pub before : List ℕ
+  pub worker : ℕ
+  pub turns : h ≡ before ++ worker ∷ []
+  pub made : asked p a (next p.b before worker) ≡ Some access
+
+-- the attempt that was begun last, by the turns that were stored
+abbrev pub last_begun : List (List ℕ) → ℕ
+last_begun made = length made - 1
+
+-- no turn was stored behind the one that made the last access: all turns of the attempt that was begun last were stored, or the last
+-- one that was stored made that access
+abbrev pub NoTurnBehind : Sizes → List (List ℕ) → List (List ℕ) → Access → Type 0
+NoTurnBehind p made hs access =
+    made ≢ [] → (turns_in made (last_begun made) ≡ turns_in hs (last_begun made)) ⊎ EndsWithTurn p (last_begun made) (turns_in made (last_begun made)) access
 
 -- how attempt a ends
 abbrev pub verdict_in : Sizes → (ℕ → Draw) → List (List ℕ) → ℕ → Verdict

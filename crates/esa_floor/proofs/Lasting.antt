@@ -17,8 +17,9 @@ use Rattle.esa_params.specs.declared.slot.Region.{Region}
 use Rattle.esa_params.specs.declared.slot.Region.TheVariants.{Input, Mid, Tail, Output}
 use Rattle.esa_report.specs.declared.item.Item.{Item}
 use Rattle.esa_spec.specs.Draws.{Draw}
+use Rattle.esa_spec.specs.Fronts.{items_at}
 use Rattle.esa_spec.specs.Histories.{begun, latest, lists, parts}
-use Rattle.esa_spec.specs.Lines.{tail}
+use Rattle.esa_spec.specs.Lines.{backlog, tail}
 use Rattle.esa_spec.specs.Places.{arranged}
 use Rattle.esa_spec.specs.Turns.{exchanged, next, order}
 use Rattle.esa_stash.specs.Stash.{padded}
@@ -122,7 +123,7 @@ pub turns-made : {V : Type 0} (f : Parts V) → 1 ≤ begun f.plan.workers f.his
 turns-made f some = at_end f.plan.workers f.history (attempt_begun f) (omega (arith, some))
 
 -- one turn more
-module _ (p : Sizes) (d : Draw) (record_of : ℕ → Item) (h : List ℕ) (n : ℕ) where
+module _ (p : Sizes) (d : Draw) (h : List ℕ) (n : ℕ) where
   abbrev h_now : List ℕ
   h_now = h ++ n ∷ []
 
@@ -149,16 +150,36 @@ module _ (p : Sizes) (d : Draw) (record_of : ℕ → Item) (h : List ℕ) (n : �
           let some = there j inside in
           absurd (omega (arith, new, some))
 
-  pub items_on : (region : Region) (index : ℕ) → AreExchanged p h region index → block_items p d record_of h region index ≡ block_items p d record_of h_now region index
+  pub counts_on : (region : Region) (index : ℕ) → AreExchanged p h region index → items_at p d (order p.b h) region index ≡ items_at p d (order p.b h_now) region index
+  counts_on Input index there = refl
+  counts_on Mid index there = ap length (sym (chunk-kept p d h (n ∷ []) (index / p.b) (index % p.b) there))
+  counts_on Tail index there = ap (λ (o : List ℕ). backlog p d o p.b index) (sym (no_more there))
+  counts_on Output index there = refl
+
+  -- it changes neither of what was exchanged, nor how many items of it there are
+  pub exchanged_goes_on : (region : Region) (index : ℕ) (now : List ℕ) → GoOn n h now → AreExchanged p h region index
+      → AreExchanged p now region index × (items_at p d (order p.b h) region index ≡ items_at p d (order p.b now) region index)
+  exchanged_goes_on region index now (inl same) there = (
+    subst (λ (g : List ℕ). AreExchanged p g region index) (sym same) there,
+    ap (λ (g : List ℕ). items_at p d (order p.b g) region index) (sym same),
+  )
+  exchanged_goes_on region index now (inr more) there = (
+    subst (λ (g : List ℕ). AreExchanged p g region index) (sym more) (exchanged_on region index there),
+    counts_on region index there ∙ ap (λ (g : List ℕ). items_at p d (order p.b g) region index) (sym more),
+  )
+
+-- nor what items
+module _ (p : Sizes) (d : Draw) (record_of : ℕ → Item) (h : List ℕ) (n : ℕ) where
+  pub items_on : (region : Region) (index : ℕ) → AreExchanged p h region index → block_items p d record_of h region index ≡ block_items p d record_of (h ++ n ∷ []) region index
   items_on Input index there = refl
   items_on Mid index there = ap (λ (xs : List ℕ). padded p.c (map record_of xs)) (sym (chunk-kept p d h (n ∷ []) (index / p.b) (index % p.b) there))
-  items_on Tail index there = ap (λ (o : List ℕ). padded p.k (map record_of (tail p d o index))) (sym (no_more there))
+  items_on Tail index there = ap (λ (o : List ℕ). padded p.k (map record_of (tail p d o index))) (sym (no_more p d h n there))
   items_on Output index there =
-      ap (λ (o : List ℕ). map record_of (slice_range (flat_map (arranged p d o) (below p.b)) (first p index) (first p (index + 1)))) (sym (no_more there))
+      ap (λ (o : List ℕ). map record_of (slice_range (flat_map (arranged p d o) (below p.b)) (first p index) (first p (index + 1)))) (sym (no_more p d h n there))
 
-  pub block_on : (run : Keys) (access : Access) (bytes : List ℕ) → IsBlock p run d record_of h access bytes → IsBlock p run d record_of h_now access bytes
+  pub block_on : (run : Keys) (access : Access) (bytes : List ℕ) → IsBlock p run d record_of h access bytes → IsBlock p run d record_of (h ++ n ∷ []) access bytes
   block_on run access bytes is = record {
-    exchanged = exchanged_on access.region access.index is.exchanged;
+    exchanged = exchanged_on p d h n access.region access.index is.exchanged;
     sealed = is.sealed
         ∙ ap (λ (items : List Item). sealed_block p run (at access.region access.index) access.attempt (text_of (item_length p.form) items))
         (items_on access.region access.index is.exchanged);

@@ -5,6 +5,7 @@ mod Dealing
 mod Exchanging
 pub mod Failing
 mod Fitting
+pub mod Giving
 mod Holding
 mod Keeping
 pub mod Lasting

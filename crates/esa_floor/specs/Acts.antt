@@ -1,10 +1,15 @@
 -- What a turn's act makes of the parts of a floor, and what it answers.
-use Rattle.std.specs.Prelude.{◌≡◌, ◌≢◌, ℕ, ◌+◌, ◌<◌, ◌≤◌, Bool, true, false, Option, Some, None}
+use Rattle.std.specs.Prelude.{◌≡◌, ◌≢◌, ℕ, ◌+◌, ◌<◌, ◌≤◌, Bool, true, false, List, Option, Some, None}
+use Rattle.esa_envelope.specs.declared.keys.Keys.{Keys}
 use Rattle.esa_outside.specs.Cause.{Rose}
+use Rattle.esa_params.specs.Sizes.{Sizes}
+use Rattle.esa_params.specs.Slots.{at, number_of}
+use Rattle.esa_params.specs.declared.slot.Region.TheVariants.{Input}
 use Rattle.esa_spec.specs.Draws.{Draw}
 use Rattle.esa_spec.specs.declared.event.Event.{Event}
 use Rattle.esa_spec.specs.declared.event.Event.TheVariants as event
 use Rattle.esa_stash.specs.Stash.{Handed, count, exchanged, total}
+use Rattle.esa_vault.specs.Seals.{opens}
 use Rattle.esa_floor.specs.Exchanges.{Exchanges}
 use Rattle.esa_floor.specs.Parts.{Counted, Parts, count_at}
 use Rattle.esa_floor.specs.Standing.{IsAtWork}
@@ -39,6 +44,15 @@ StopsReading number opened before now None = (opened ≡ true) × (now ≡ befor
 StopsReading number opened before now (Some (stop.DeviceFault n)) = (n ≡ number) × Rose before now
 StopsReading number opened before now (Some (stop.Tampered n)) = (n ≡ number) × (opened ≡ false) × (now ≡ before)
 StopsReading number opened before now (Some (stop.StashOverflow j)) = ⊥
+
+-- so it is with a turn whose event is a read of the block of bucket j
+abbrev pub StopsBy : Sizes → Keys → ℕ → Event → List ℕ → ℕ → ℕ → Option Stop → Type 0
+StopsBy p run a (event.Read j) given before now s = StopsReading (number_of p (at Input j)) (opens p run (at Input j) a 0 given) before now s
+StopsBy p run a (event.Claim j) given before now s = Unit {0}
+StopsBy p run a (event.Exchange j) given before now s = Unit {0}
+StopsBy p run a (event.Write j i) given before now s = Unit {0}
+StopsBy p run a event.Done given before now s = Unit {0}
+StopsBy p run a event.Idle given before now s = Unit {0}
 
 -- the stop after a write
 abbrev pub StopsWriting : ℕ → ℕ → ℕ → Option Stop → Type 0

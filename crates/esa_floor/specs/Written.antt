@@ -1,16 +1,18 @@
--- What the writes of a run took, of every attempt: the seals of the records of their blocks.
-use Rattle.std.specs.Prelude.{◌≡◌, ◌≢◌, ℕ, ◌+◌, ◌/◌, ◌%◌, ◌<◌, ◌≤◌, ◌==◌, List, [], ◌∷◌, ◌++◌, All, Option, Some, None, count_by, map, slice_index_or}
+-- What the writes of a run took, of every attempt: the seals of the records of their blocks. And what its reads gave:
+-- blocks that open.
+use Rattle.std.specs.Prelude.{◌≡◌, ◌≢◌, ℕ, ◌+◌, ◌/◌, ◌%◌, ◌<◌, ◌≤◌, ◌==◌, true, List, [], ◌∷◌, ◌++◌, All, Option, Some, None, Result, Ok, Err, count_by, length, map, slice_index_or}
 use Rattle.esa_device.specs.Logs.{Carried, latest_carried}
 use Rattle.esa_envelope.specs.declared.keys.Keys.{Keys}
 use Rattle.esa_params.specs.Sizes.{Sizes}
 use Rattle.esa_params.specs.Slots.{IsPlanned, at, item_length, number_of}
 use Rattle.esa_params.specs.declared.slot.Access.{Access}
-use Rattle.esa_params.specs.declared.slot.Op.TheVariants.{Write as Writes}
+use Rattle.esa_params.specs.declared.slot.Op.TheVariants.{Read as Reads, Write as Writes}
 use Rattle.esa_params.specs.declared.slot.Region.{Region}
 use Rattle.esa_params.specs.declared.slot.Region.TheVariants.{Input, Mid, Tail, Output}
 use Rattle.esa_params.specs.declared.slot.Slot.{Slot}
 use Rattle.esa_report.specs.declared.item.Item.{Item}
 use Rattle.esa_spec.specs.Draws.{Draw}
+use Rattle.esa_spec.specs.Fronts.{items_in}
 use Rattle.esa_spec.specs.Histories.{parts}
 use Rattle.esa_spec.specs.Lines.{chunk, tail}
 use Rattle.esa_spec.specs.Places.{exchange_of, output_places}
@@ -18,7 +20,7 @@ use Rattle.esa_spec.specs.Turns.{order}
 use Rattle.esa_stash.specs.Stash.{padded}
 use Rattle.esa_vault.specs.Filled.{text_of}
 use Rattle.esa_vault.specs.Placed.{IsHeld, IsSpelled}
-use Rattle.esa_vault.specs.Seals.{sealed_block}
+use Rattle.esa_vault.specs.Seals.{opens, sealed_block}
 use Rattle.esa_floor.specs.Keeping.{HasInput}
 use Rattle.esa_floor.specs.Parts.{Parts}
 use Rattle.esa_floor.specs.declared.turn.Stop.{Stop}
@@ -71,6 +73,11 @@ pub record IsOfInput (p : Sizes) (entry : Carried) : Type 0 where
   pub region : entry.access.region ≡ Input
   pub planned : entry.access.index < p.b
 
+-- a write of one
+pub record WritesInput (p : Sizes) (entry : Carried) : Type 0 where
+  pub of : IsOfInput p entry
+  pub writes : entry.access.op ≡ Writes
+
 -- the latest write of a slot is this access, and took these bytes
 abbrev pub IsLatest : {V : Type 0} → Parts V → Slot → Access → List ℕ → Type 0
 IsLatest f slot access bytes = latest_carried f.plan (number_of f.plan slot) f.recorder.log ≡ Some (record { access = access; bytes = Some bytes })
@@ -83,6 +90,47 @@ tail_seal p run a d record_of o i = sealed_block p run (at Tail i) a (text_of (i
 -- the block of output bucket j in an attempt with the turns h: the seal of the records of its places, in order
 abbrev pub output_seal : Sizes → Keys → ℕ → Draw → (ℕ → Item) → List ℕ → ℕ → List ℕ
 output_seal p run a d record_of h j = sealed_block p run (at Output j) a (text_of (item_length p.form) (map record_of (output_places p d h j)))
+
+-- a read gave bytes, and they open for its slot and its attempt, with so many items before the dummies as the turns of the
+-- attempt put there
+abbrev pub GaveWhatOpens : Sizes → Keys → (ℕ → Draw) → (ℕ → List ℕ) → Carried → Type 0
+GaveWhatOpens p run ds turns entry =
+    entry.access.op ≡ Reads → (bytes : List ℕ) × (entry.bytes ≡ Some bytes)
+    × (opens p run (at entry.access.region entry.access.index) entry.access.attempt
+    (items_in p (ds entry.access.attempt) (order p.b (turns entry.access.attempt)) entry.access) bytes ≡ true)
+
+-- no turn more changes that, since what the items come from was exchanged
+pub record GaveItsBlock (p : Sizes) (run : Keys) (ds : ℕ → Draw) (turns : ℕ → List ℕ) (entry : Carried) : Type 0 where
+  pub exchanged : entry.access.op ≡ Reads → AreExchanged p (turns entry.access.attempt) entry.access.region entry.access.index
+  pub opened : GaveWhatOpens p run ds turns entry
+
+-- so it is with an access of a floor
+abbrev pub GaveItsOwn : {V : Type 0} → (ℕ → Draw) → Parts V → Carried → Type 0
+GaveItsOwn ds f = GaveItsBlock f.plan f.run ds (attempt_turns f)
+
+-- a fact of each access of a log but the last
+abbrev pub EachButLast : (Carried → Type 0) → List Carried → Type 0
+EachButLast Fact log = (x : ℕ) (entry : Carried) → x + 1 < length log → Fact (slice_index_or log x entry)
+
+-- a fact of each access of a log, or of each but the last, where the last one ended it
+abbrev pub EachUntil : {T E : Type 0} → (Carried → Type 0) → Result T E → List Carried → Type 0
+EachUntil Fact (Ok done) log = All Fact log
+EachUntil Fact (Err why) log = EachButLast Fact log
+
+-- which reads gave their blocks, by the stop that there is after them: all, but the last access where it stopped there
+abbrev pub ReadsGave : (Carried → Type 0) → Option Stop → List Carried → Type 0
+ReadsGave Fact None log = All Fact log
+ReadsGave Fact (Some (DeviceFault number)) log = EachButLast Fact log
+ReadsGave Fact (Some (Tampered number)) log = EachButLast Fact log
+ReadsGave Fact (Some (StashOverflow j)) log = All Fact log
+
+-- each read of the floor's log gave its block
+abbrev pub EachGaveItsBlock : {V : Type 0} → (ℕ → Draw) → Parts V → Type 0
+EachGaveItsBlock ds f = All (GaveItsOwn ds f) f.recorder.log
+
+-- or each but the last access, where the turns have stopped at it
+abbrev pub ReadsGaveTheirBlocks : {V : Type 0} → (ℕ → Draw) → Parts V → Type 0
+ReadsGaveTheirBlocks ds f = ReadsGave (GaveItsOwn ds f) f.stop f.recorder.log
 
 -- no write of the log failed
 abbrev pub NoWriteFailed : List Carried → Type 0

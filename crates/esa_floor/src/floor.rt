@@ -3,19 +3,20 @@
 ghost use Rattle.std.specs.Prelude.{◌≡◌, ◌≢◌, ℕ, ◌+◌, ◌-◌, ◌*◌, ◌<◌, ◌≤◌, ◌↔◌, ◌++◌, ◌∷◌, List, [], min, Some, None, IsTrue, IfOk, IfErr, IsOk, OnOk, OnErr, drop, length, map, option_to_list};
 ghost use Rattle.esa_device.specs.Logs.{Carried};
 ghost use Rattle.esa_params.specs.Sizes.{size};
-ghost use Rattle.esa_params.specs.Slots.{access_of, at, greatest_trace};
+ghost use Rattle.esa_params.specs.Slots.{access_of, at, greatest_trace, number_of};
 ghost use Rattle.esa_report.specs.declared.item.Item.{Item};
 ghost use Rattle.esa_spec.specs.Draws.{drawn};
 ghost use Rattle.esa_spec.specs.Traces.{asked, chunk_slot};
 ghost use Rattle.esa_spec.specs.Turns.{held, next, next_phase};
 ghost use Rattle.esa_stash.specs.Stash.{chunks as chunks_of, empty_stash, padded, queue_at, without};
-ghost use Rattle.esa_floor.specs.Acts.{WorksOn, answer_in, answer_of, counted_after};
+ghost use Rattle.esa_vault.specs.Seals.{opens};
+ghost use Rattle.esa_floor.specs.Acts.{StopsBy, StopsReading, WorksOn, answer_in, answer_of, counted_after};
 ghost use Rattle.esa_floor.specs.Keeping.{Deals, HoldsAfter, HoldsChunks, HoldsRecords, IsDealt, Leaves, OpensTo, QueuesHold, QueuesHoldAfter, SlotsHold, SlotsHoldAfter, StopsAfter};
 ghost use Rattle.esa_floor.specs.Logging.{noted_of, read_of, write_of};
 ghost use Rattle.esa_floor.specs.Marks.{mark_of, roots_of};
 ghost use Rattle.esa_floor.specs.Workers.{IsInRound, IsOfFloor, WorkerStands, moved};
 ghost use Rattle.esa_floor.specs.Working.{IsReady, Working, handed_by, passed};
-ghost use Rattle.esa_floor.specs.Written.{EachTookItsBlock, WritesFailed};
+ghost use Rattle.esa_floor.specs.Written.{EachTookItsBlock, ReadsGaveTheirBlocks, WritesFailed};
 ghost use Rattle.esa_floor.specs.Parts.{begun_as, count_at, ended_as, no_counts, nothing_counted, with_entry};
 ghost use Rattle.esa_floor.specs.Standing.{IsAtWork, Stands, StopsAt, attempt_begun, turns_made};
 
@@ -407,6 +408,7 @@ impl<V: Device, G: Told> Floor<V, G> {
         ensures trace { length self.new.recorder.trace ≡ length self.old.recorder.trace + 1 }
         ensures access { self.new.recorder.trace ≡ self.old.recorder.trace ++ access_of self.old.plan (attempt_begun self.old) Op.Read (at Region.Input worker.old.bucket) ∷ [] }
         ensures log { self.new.recorder.log ≡ self.old.recorder.log ++ read_of self.old.plan (attempt_begun self.old) worker.old.bucket self.new.stop self.new.recorder.last ∷ [] }
+        ensures reads { StopsReading (number_of self.old.plan (at Region.Input worker.old.bucket)) (opens self.old.plan self.old.run (at Region.Input worker.old.bucket) (attempt_begun self.old) 0 self.new.recorder.last) (V.faults self.old.recorder.device) (V.faults self.new.recorder.device) self.new.stop }
         ensures opened { self.new.stop ≡ None → OpensTo self.old.plan self.old.run (attempt_begun self.old) worker.old.bucket worker.new.buffers.text self.old.recorder self.new.recorder }
         ensures worker { self.new.stop ≡ None → worker.new ≡ record worker.old { phase = 2; stage = Stage.Envelopes; buffers = record worker.old.buffers { text = worker.new.buffers.text; sealed = worker.new.buffers.sealed } } }
         ensures kept { worker.new ≡ moved worker.old worker.new }
@@ -506,6 +508,7 @@ impl<V: Device, G: Told> Floor<V, G> {
         ensures leaves { self.new.stop ≡ None → Leaves (next self.old.plan.b (turns_made self.old) worker.old.number) self.old worker.old worker.new }
         ensures failed { self.new.stop ≢ None → self.new.stash ≡ self.old.stash }
         ensures deals { self.new.stop ≡ None → Deals (C.target_list worker.old.coins) (next self.old.plan.b (turns_made self.old) worker.old.number) self.old self.new worker.old }
+        ensures reads { StopsBy self.old.plan self.old.run (attempt_begun self.old) (next self.old.plan.b (turns_made self.old) worker.old.number) self.new.recorder.last (V.faults self.old.recorder.device) (V.faults self.new.recorder.device) self.new.stop }
         ensures log { self.new.recorder.log ≡ self.old.recorder.log ++ noted_of self.old.plan worker.old.run (attempt_begun self.old) (next self.old.plan.b (turns_made self.old) worker.old.number) self.new.stop self.new.recorder.last worker.old.buffers.chunks }
         ensures round { self.new.stop ≡ None → IsInRound self.old.plan.b (turns_made self.old ++ worker.old.number ∷ []) worker.new }
         ensures moved { worker.new ≡ moved worker.old worker.new }
@@ -549,6 +552,7 @@ impl<V: Device, G: Told> Floor<V, G> {
         ensures leaves { self.new.stop ≡ None → Leaves (next self.old.plan.b (turns_made self.old) worker.old.number) self.old worker.old worker.new }
         ensures failed { self.new.stop ≢ None → self.new.stash ≡ self.old.stash }
         ensures deals { self.new.stop ≡ None → Deals (C.target_list worker.old.coins) (next self.old.plan.b (turns_made self.old) worker.old.number) self.old self.new worker.old }
+        ensures reads { StopsBy self.old.plan self.old.run (attempt_begun self.old) (next self.old.plan.b (turns_made self.old) worker.old.number) self.new.recorder.last (V.faults self.old.recorder.device) (V.faults self.new.recorder.device) self.new.stop }
         ensures log { self.new.recorder.log ≡ self.old.recorder.log ++ noted_of self.old.plan worker.old.run (attempt_begun self.old) (next self.old.plan.b (turns_made self.old) worker.old.number) self.new.stop self.new.recorder.last worker.old.buffers.chunks }
         ensures round { self.new.stop ≡ None → IsInRound self.old.plan.b (turns_made self.old ++ worker.old.number ∷ []) worker.new }
         ensures moved { worker.new ≡ moved worker.old worker.new }
@@ -577,6 +581,7 @@ impl<V: Device, G: Told> Floor<V, G> {
         ensures holds { HoldsRecords self.new worker.new }
         ensures leaves { self.old.attempt ≢ None → self.old.stop ≡ None → self.new.stop ≡ None → Leaves (next self.old.plan.b (turns_made self.old) worker.old.number) self.old worker.old worker.new }
         ensures deals { self.old.attempt ≢ None → self.old.stop ≡ None → self.new.stop ≡ None → Deals (C.target_list worker.old.coins) (next self.old.plan.b (turns_made self.old) worker.old.number) self.old self.new worker.old }
+        ensures reads { self.old.attempt ≢ None → self.old.stop ≡ None → StopsBy self.old.plan self.old.run (attempt_begun self.old) (next self.old.plan.b (turns_made self.old) worker.old.number) self.new.recorder.last (V.faults self.old.recorder.device) (V.faults self.new.recorder.device) self.new.stop }
         ensures log { self.old.attempt ≢ None → self.old.stop ≡ None → self.new.recorder.log ≡ self.old.recorder.log ++ noted_of self.old.plan worker.old.run (attempt_begun self.old) (next self.old.plan.b (turns_made self.old) worker.old.number) self.new.stop self.new.recorder.last worker.old.buffers.chunks }
         ensures failed { self.new.stop ≢ None → self.new.stash ≡ self.old.stash }
         ensures stops { self.old.attempt ≢ None → self.old.stop ≡ None → self.new.stop ≢ None → StopsAt V.faults (G.draws (attempt_begun self.old)) (attempt_begun self.old) (with_entry self.new worker.old.number) (length (turns_made self.old)) self.new.stop }
@@ -638,6 +643,9 @@ impl<V: Device, G: Told> Floor<V, G> {
 
         // No write failed but the last access, where the stop is that the device failed.
         ensures writes { WritesFailed self.old.stop self.old.recorder.log → WritesFailed self.new.stop self.new.recorder.log }
+
+        // Each read gave bytes that open, but the last access, where the stop is that it failed or that they don't.
+        ensures reads { ReadsGaveTheirBlocks G.draws self.old → ReadsGaveTheirBlocks G.draws self.new }
 
         // Where this turn fails, the turns stop at it, and the queues and the slots hold what those before it made.
         ensures stops { self.old.attempt ≢ None → self.old.stop ≡ None → self.new.stop ≢ None → StopsAfter V.faults G.draws (turns_made self.old) self.new }

@@ -1,5 +1,5 @@
 -- A floor that was loaded, and one whose load failed, behind the entries that came before the run.
-use Rattle.std.proofs.Common.{◌≡◌, ℕ, zero, suc, ◌+◌, ◌<◌, ◌≤◌, List, [], ◌∷◌, ◌++◌, length, map, drop, All, Option, Some, None, refl, sym, ap, ◌∙◌, subst, arith, length-append}
+use Rattle.std.proofs.Common.{◌≡◌, inl, ℕ, zero, suc, ◌+◌, ◌<◌, ◌≤◌, List, [], ◌∷◌, ◌++◌, length, map, drop, All, Option, Some, None, refl, sym, ap, ◌∙◌, subst, arith, length-append}
 use mathlib.Core.List.{IsPrefix}
 use Rattle.std.proofs.lemmas.List.{drop_all}
 use Rattle.std.proofs.lemmas.List.Elements.{All-nil}
@@ -17,7 +17,7 @@ use Rattle.esa_floor.specs.Marks.{mark_of, roots_of}
 use Rattle.esa_floor.specs.Parts.{Parts, ended_as}
 use Rattle.esa_floor.specs.Standing.{EndsAs, IsAt, IsNew, Stands, lists_before}
 use Rattle.esa_floor.specs.Trails.{IsKept, entry_text, trail_of}
-use Rattle.esa_floor.specs.Written.{IsOfInput, NoWriteFailed, WritesFailed}
+use Rattle.esa_floor.specs.Written.{GaveItsOwn, IsOfInput, NoWriteFailed, ReadsGave, WritesFailed}
 use Rattle.esa_floor.specs.declared.floor.Roots.{Roots}
 use Rattle.esa_floor.specs.declared.turn.Outcome.{Outcome}
 use Rattle.esa_floor.specs.declared.turn.Outcome.TheVariants as outcome
@@ -75,6 +75,7 @@ module _ {V : Type 0} (faults : V → ℕ) (p : Sizes) (ds : ℕ → Draw) (f : 
     slots = λ record_of input some. absurd (some new.1);
     took = λ record_of items. took-input ds record_of f (subst (All (IsOfInput f.plan)) (sym (no_log logged)) (All-nil (IsOfInput f.plan)));
     writes = subst (λ (s : Option Stop). WritesFailed s f.recorder.log) (sym new.2.runs) (subst NoWriteFailed (sym (no_log logged)) (All-nil Moved));
+    reads = subst (λ (s : Option Stop). ReadsGave (GaveItsOwn ds f) s f.recorder.log) (sym new.2.runs) (subst (All (GaveItsOwn ds f)) (sym (no_log logged)) (All-nil (GaveItsOwn ds f)));
   }
 
 -- what begins nothing begins everything
@@ -151,6 +152,7 @@ module _ {V : Type 0} (faults : V → ℕ) (p : Sizes) (ds : ℕ → Draw) (f : 
         room = let few = entries in omega (arith, few);
         history = ap (history_of p) (sym empty);
         turns = stored o load;
+        behind = λ access ends there. inl refl;
         failed = no_failures ∙ ap (λ (n : ℕ). map (verdict_in p ds (lists_ended p alone)) (below n)) (sym (none_failed o load));
         batch = subst (λ (q : Sizes). IsCounted q.b (length f.recorder.trace) before now o) stands.of.plan counted;
       })

@@ -5,7 +5,7 @@ ghost use Rattle.esa_device.specs.Logs.{IsFaithful};
 ghost use Rattle.esa_floor.specs.Keeping.{HasInput};
 ghost use Rattle.esa_floor.specs.Parts.{begun_as};
 ghost use Rattle.esa_floor.specs.Standing.{Stands, turns_made};
-ghost use Rattle.esa_floor.specs.Written.{AreItems, EachTookItsBlock, NoWriteFailed};
+ghost use Rattle.esa_floor.specs.Written.{AreItems, EachGaveItsBlock, EachTookItsBlock, EachUntil, GaveItsOwn, NoWriteFailed};
 ghost use Rattle.esa_params.specs.Slots.{item_length};
 ghost use Rattle.esa_press.specs.Contents.{AreOrders, AreOutputsStored};
 ghost use Rattle.esa_report.specs.declared.item.Item.{Item};
@@ -57,6 +57,7 @@ pub(crate) fn make_attempt<
     requires some { 1 ≤ G.plan.workers }
     requires took { (record_of : ℕ → Item) → AreItems (item_length G.plan.form) record_of → EachTookItsBlock G.draws record_of held.value }
     requires writes { NoWriteFailed held.value.recorder.log }
+    requires reads { EachGaveItsBlock G.draws held.value }
     requires floor { HasFloor G.plan turnstile.now owner.old held.value }
     requires tickets { 2 ≤ left_of owner.old }
     requires passes { passes_of turnstile.now ≡ G.plan.workers + 1 }
@@ -83,6 +84,7 @@ pub(crate) fn make_attempt<
         → AreOutputsStored G.plan held.value.run (G.draws attempt) (turns_made result.held.value) attempt record_of G.plan.b result.held.value.recorder.log }
     ensures took { (record_of : ℕ → Item) → AreItems (item_length G.plan.form) record_of → EachTookItsBlock G.draws record_of result.held.value }
     ensures writes { WritesEnd result.end result.held.value.recorder.log }
+    ensures reads { EachUntil (GaveItsOwn G.draws result.held.value) result.end result.held.value.recorder.log }
     ensures posts { (k : ℕ) (d : _) → k < length posts.new → Rests V.faults G.draws C.target_list G.plan turnstile.now result.held.value k (slice_index_or posts.new k d) }
     ensures each { length posts.new ≡ length posts.old }
 

@@ -7,12 +7,12 @@ ghost use Rattle.esa_floor.specs.Keeping.{HasInput};
 ghost use Rattle.esa_floor.specs.Marks.{roots_of};
 ghost use Rattle.esa_floor.specs.Parts.{begun_as};
 ghost use Rattle.esa_floor.specs.Standing.{Stands};
-ghost use Rattle.esa_floor.specs.Written.{AreItems, EachTookItsBlock, NoWriteFailed};
+ghost use Rattle.esa_floor.specs.Written.{AreItems, EachGaveItsBlock, EachTookItsBlock, GaveItsOwn, NoWriteFailed};
 ghost use Rattle.esa_params.specs.Sizes.{ArePlanned};
 ghost use Rattle.esa_params.specs.Slots.{item_length};
 ghost use Rattle.esa_press.specs.Contents.{AreOutputsStored};
 ghost use Rattle.esa_report.specs.declared.item.Item.{Item};
-ghost use Rattle.esa_shuffle.specs.Records.{WritesOf};
+ghost use Rattle.esa_shuffle.specs.Records.{ReadsOf, WritesOf};
 ghost use Rattle.esa_shuffle.specs.Runs.{MayEnd, lists_ended};
 ghost use Rattle.esa_spec.specs.Draws.{drawn};
 ghost use Rattle.esa_spec.specs.Fronts.{Begins};
@@ -61,6 +61,7 @@ pub(crate) fn make_attempts<
     requires planned { ArePlanned G.plan }
     requires took { (record_of : ℕ → Item) → AreItems (item_length G.plan.form) record_of → EachTookItsBlock G.draws record_of held.value }
     requires writes { NoWriteFailed held.value.recorder.log }
+    requires reads { EachGaveItsBlock G.draws held.value }
     requires floor { HasFloor G.plan turnstile.now owner.old held.value }
     requires tickets { G.plan.attempts + 1 ≤ left_of owner.old }
     requires passes { passes_of turnstile.now ≡ G.plan.workers + 1 }
@@ -92,6 +93,9 @@ pub(crate) fn make_attempts<
     // However the attempts ended, each write took its block, and none failed but the last.
     ensures took { (record_of : ℕ → Item) → AreItems (item_length G.plan.form) record_of → EachTookItsBlock G.draws record_of result.held.value }
     ensures writes { WritesOf result.outcome result.held.value.recorder.log }
+
+    // So each read gave its block, for every device.
+    ensures reads { ReadsOf (GaveItsOwn G.draws result.held.value) result.outcome result.held.value.recorder.log }
     ensures origin { roots_of result.held.value ≡ roots_of held.value }
 {
     for attempt in 0..held.value.plan().attempts() {

@@ -88,9 +88,13 @@ fn load_and_run<
     ensures size { B.size batch.new ≡ B.size batch.old }
 {
     match load(&mut held.value, loader, batch) {
-        Ok(()) => make_attempts(
-            rt, turnstile, owner, held, posts, press, failures, coins, gate,
-        ),
+        Ok(()) => {
+            let over = make_attempts(
+                rt, turnstile, owner, held, posts, press, failures, coins, gate,
+            );
+            over.held.value.keeps_its_log();
+            over
+        }
         Err(outcome) => Over { held, outcome },
     }
 }

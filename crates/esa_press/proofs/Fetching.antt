@@ -1,5 +1,5 @@
 -- Reads of an import, one after another.
-use Rattle.std.proofs.Common.{◌≡◌, ℕ, ◌+◌, ◌-◌, ◌*◌, ◌<◌, ◌≤◌, ◌≢◌, ◌⊎◌, inl, inr, Bool, cond, List, [], ◌∷◌, ◌++◌, length, take, drop, map, sum, All, Option, Some, Result, Ok, Err, OnOk, refl, sym, ap, ◌∙◌, subst, arith, append-nil, append_assoc, length-drop, suc, get_or}
+use Rattle.std.proofs.Common.{◌≡◌, ℕ, ◌+◌, ◌-◌, ◌*◌, ◌<◌, ◌≤◌, ◌≢◌, ◌⊎◌, inl, inr, Bool, true, cond, List, [], ◌∷◌, ◌++◌, length, take, drop, map, sum, All, Option, Some, Result, Ok, Err, OnOk, refl, sym, ap, ◌∙◌, subst, arith, append-nil, append_assoc, length-drop, suc, get_or}
 use Rattle.std.specs.Prelude.{slice_index, flat_map}
 use Rattle.std.proofs.lemmas.Bool.{lt-ltb, le-ltb}
 use Rattle.std.proofs.lemmas.List.Elements.{All-nil, All-push, All-append, All-weaker}
@@ -15,6 +15,8 @@ use Rattle.esa_device.specs.Logs.{Carried, IsFaithful, Took}
 use Rattle.esa_device.specs.Recording.{Recorded}
 use Rattle.esa_device.proofs.LogLaws.{faithful-front, took-elsewhere, took-read}
 use Rattle.esa_envelope.specs.declared.keys.Keys.{Keys}
+use Rattle.esa_floor.specs.Written.{EachUntil}
+use Rattle.esa_floor.proofs.Giving.{each_before}
 use Rattle.esa_laws.proofs.Ranges.{below-add-one, map-below-same}
 use Rattle.esa_outside.specs.Cause.{Rose}
 use Rattle.esa_params.specs.Sizes.{Sizes, below}
@@ -34,7 +36,7 @@ use Rattle.esa_vault.specs.Traffic.{IsRead, OnGiven, ReadAnswer, given_by}
 use Rattle.esa_vault.specs.declared.fault.VaultFault.{VaultFault}
 use Rattle.esa_vault.specs.declared.fault.VaultFault.TheVariants.{Device, Tampered}
 use Rattle.esa_press.specs.Records.{sealed_records}
-use Rattle.esa_press.specs.Fetched.{FetchAnswer, GivesAtLast, GivesRecords, GoesOnReading, IsFetched, IsStored, OnUnopened, part_slot}
+use Rattle.esa_press.specs.Fetched.{FetchAnswer, GavePart, GivesAtLast, GivesRecords, GoesOnReading, IsFetched, IsStored, OnUnopened, part_slot}
 
 -- the parts of an import, and the reads of them
 module _ (p : Sizes) (a i : ℕ) where
@@ -118,11 +120,13 @@ stored_after p keys slot attempt n old new records on stored = record {
 
 module _ {V T : Type 0} (told : V → Option (List (List ℕ))) (faults : V → ℕ) (last_call : V → Option (Op × ℕ)) (p : Sizes) (keys : Keys) (a i : ℕ) (counts : List ℕ) where
   pub fetched_none : (old : Recorded V) (done : T) → IsFetched faults p keys a i counts 0 old old (Ok done)
+  unfolding reads_none
   fetched_none old done = record {
     made = 0;
     few = omega arith;
     trace = sym (append-nil old.trace);
     log = reads_none old.log;
+    gave = All-nil (GavePart p keys a i counts);
     room = omega arith;
     plan = refl;
     given = tt;
@@ -149,10 +153,26 @@ module _ {V T : Type 0} (told : V → Option (List (List ℕ))) (faults : V → 
   answer_more x before mid now last (Err (Device number)) same answer = (x, refl, answer.0, subst (λ (n : ℕ). Rose n now) same answer.1)
   answer_more x before mid now last (Err (Tampered number)) same answer = (x, refl, answer.0, answer.1, answer.2 ∙ same)
 
+  gave_more : (x before now : ℕ) (more : List Carried) (last bytes : List ℕ) (result : Result T VaultFault) → x < p.b + 1 → All (GavePart p keys a i counts) more
+      → OnGiven result (last ≡ bytes) → ReadAnswer (number_of p (part_slot p i x)) before now (opens p keys (part_slot p i x) a (slice_index counts x) last) result
+      → EachUntil (GavePart p keys a i counts) result (more ++ record { access = read_part p a i x; bytes = given_by result bytes } ∷ [])
+  gave_more x before now more last bytes (Ok done) inside each same answer =
+      All-push (GavePart p keys a i counts) more (record { access = read_part p a i x; bytes = Some bytes }) each
+      (record {
+        part = x;
+        inside = inside;
+        bytes = bytes;
+        is = refl;
+        opened = subst (λ (given : List ℕ). opens p keys (part_slot p i x) a (slice_index counts x) given ≡ true) same answer.0;
+      })
+  gave_more x before now more last bytes (Err fault) inside each same answer =
+      each_before (GavePart p keys a i counts) more (record { access = read_part p a i x; bytes = given_by {T = T} (Err fault) bytes }) each
+
   fetched_next : (x : ℕ) (old mid new : Recorded V) (done : T) (bytes : List ℕ) (result : Result T VaultFault) → x < p.b + 1
       → IsFetched faults p keys a i counts x old mid (Ok done)
       → IsRead told faults last_call p (part_slot p i x) a (opens p keys (part_slot p i x) a (slice_index counts x)) bytes mid new result
       → IsFetched faults p keys a i counts (x + 1) old new result
+  unfolding reads_more
   fetched_next x old mid new done bytes result inside so_far read =
       let before : so_far.made ≡ x = so_far.answer.0 in
       record {
@@ -165,6 +185,7 @@ module _ {V T : Type 0} (told : V → Option (List (List ℕ))) (faults : V → 
             ∙ ap (λ (n : ℕ). old.trace ++ (take n (import_reads p a i) ++ read_part p a i x ∷ [])) before
             ∙ ap (λ (l : List Access). old.trace ++ l) (sym (one_read_more p a i x inside));
         log = reads_more old.log mid.log new.log (record { access = read_part p a i x; bytes = given_by result bytes }) so_far.log refl read.recorded.log;
+        gave = gave_more x (faults mid.device) (faults new.device) so_far.log.more new.last bytes result inside so_far.gave read.given read.answer;
         room = let one = so_far.room in let other = read.recorded.room in omega (arith, one, other, before);
         plan = read.recorded.plan ∙ so_far.plan;
         given = given_more x (x + 1 - 1) old.log mid.log new.log new.last bytes result (omega arith) so_far.log read.recorded.log read.given;
@@ -188,6 +209,7 @@ module _ {V T : Type 0} (told : V → Option (List (List ℕ))) (faults : V → 
     few = let few = fetched.few in omega (arith, few, within);
     trace = fetched.trace;
     log = fetched.log;
+    gave = fetched.gave;
     room = fetched.room;
     plan = fetched.plan;
     given = fetched.given;
@@ -198,6 +220,7 @@ module _ {V T : Type 0} (told : V → Option (List (List ℕ))) (faults : V → 
     few = let few = fetched.few in omega (arith, few, within);
     trace = fetched.trace;
     log = fetched.log;
+    gave = fetched.gave;
     room = fetched.room;
     plan = fetched.plan;
     given = fetched.given;

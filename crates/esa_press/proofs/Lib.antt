@@ -3,6 +3,7 @@ pub mod Draining
 pub mod Failing
 pub mod Fetching
 pub mod Finishing
+pub mod Giving
 pub mod Moving
 pub mod Opened
 pub mod Stepping

@@ -3,7 +3,9 @@ use Rattle.std.specs.Prelude.{◌≡◌, ℕ, ◌+◌, ◌<◌, ◌++◌, ◌&&�
 use Rattle.esa_device.specs.Logs.{Carried, IsFaithful, Took}
 use Rattle.esa_envelope.specs.declared.keys.Keys.{Keys}
 use Rattle.esa_floor.specs.Keeping.{AreChunksStored}
-use Rattle.esa_floor.specs.Written.{AreItems, NoWriteFailed, OnlyLastFailed, TookItsBlock, output_seal, tail_seal}
+use Rattle.esa_floor.specs.Parts.{Parts}
+use Rattle.esa_floor.specs.Standing.{turns_made}
+use Rattle.esa_floor.specs.Written.{AreItems, EachButLast, EachGaveItsBlock, GaveItsOwn, NoWriteFailed, OnlyLastFailed, TookItsBlock, attempt_turns, output_seal, tail_seal}
 use Rattle.esa_params.specs.Sizes.{ArePlanned, Sizes}
 use Rattle.esa_params.specs.Slots.{at, is_writing, item_length, number_of}
 use Rattle.esa_params.specs.declared.slot.Op.TheVariants.{Write as Writes}
@@ -111,3 +113,14 @@ EndsWriting (Ok done) log = NoWriteFailed log
 EndsWriting (Err (Verdict v)) log = NoWriteFailed log
 EndsWriting (Err (Fault (Device number))) log = OnlyLastFailed log
 EndsWriting (Err (Fault (Tampered number))) log = NoWriteFailed log
+
+-- which reads gave their blocks, by how it ended: all, but the last access where it failed or gave what doesn't open
+abbrev pub EndsReading : {T : Type 0} → (Carried → Type 0) → Result T Halt → List Carried → Type 0
+EndsReading Fact (Ok done) log = All Fact log
+EndsReading Fact (Err (Verdict v)) log = All Fact log
+EndsReading Fact (Err (Fault fault)) log = EachButLast Fact log
+
+-- so it is with those of a floor, where attempt a is at work and each read before it gave its block
+abbrev pub GoesOnGiving : {V T : Type 0} → (ℕ → Draw) → ℕ → Parts V → Parts V → Result T Halt → Type 0
+GoesOnGiving ds a old new result =
+    attempt_turns old a ≡ turns_made old → EachGaveItsBlock ds old → EndsReading (GaveItsOwn ds new) result new.recorder.log

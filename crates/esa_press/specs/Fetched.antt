@@ -1,9 +1,10 @@
 -- Blocks that are read and opened to items, one by one and for a whole import.
-use Rattle.std.specs.Prelude.{◌≡◌, ℕ, ◌+◌, ◌-◌, ◌<◌, ◌≤◌, nat_lt, if◌then◌else◌, false, Some, List, [], ◌∷◌, ◌++◌, All, length, take, slice_index, Result, Ok, Err, OnOk}
+use Rattle.std.specs.Prelude.{◌≡◌, ℕ, ◌+◌, ◌-◌, ◌<◌, ◌≤◌, nat_lt, if◌then◌else◌, true, false, Some, List, [], ◌∷◌, ◌++◌, All, length, take, slice_index, Result, Ok, Err, OnOk}
 use Rattle.esa_compress.specs.Held.{held_count}
 use Rattle.esa_device.specs.Logs.{Carried, IsFaithful, Took}
 use Rattle.esa_device.specs.Recording.{Recorded}
 use Rattle.esa_envelope.specs.declared.keys.Keys.{Keys}
+use Rattle.esa_floor.specs.Written.{EachUntil}
 use Rattle.esa_outside.specs.Cause.{Rose}
 use Rattle.esa_params.specs.Sizes.{Sizes}
 use Rattle.esa_params.specs.Slots.{access_of, at, item_length, number_of}
@@ -74,12 +75,21 @@ FetchAnswer p keys attempt i counts before now last most made (Err (Tampered num
     (x : ℕ) × (made ≡ x + 1) × (number ≡ number_of p (part_slot p i x))
     × (opens p keys (part_slot p i x) attempt (slice_index counts x) last ≡ false) × (now ≡ before)
 
+-- a read of a part of the import of the target i gave bytes, and they open for the count of its items
+pub record GavePart (p : Sizes) (keys : Keys) (attempt i : ℕ) (counts : List ℕ) (entry : Carried) : Type 0 where
+  pub part : ℕ
+  pub inside : part < p.b + 1
+  pub bytes : List ℕ
+  pub is : entry ≡ record { access = access_of p attempt Reads (part_slot p i part); bytes = Some bytes }
+  pub opened : opens p keys (part_slot p i part) attempt (slice_index counts part) bytes ≡ true
+
 -- what is ensured of reading the first parts of the import of the target i, up to the first that is not got
 pub record IsFetched {V T : Type 0} (faults : V → ℕ) (p : Sizes) (keys : Keys) (attempt i : ℕ) (counts : List ℕ) (most : ℕ) (old new : Recorded V) (result : Result T VaultFault) : Type 0 where
   pub made : ℕ
   pub few : made ≤ most
   pub trace : new.trace ≡ old.trace ++ take made (import_reads p attempt i)
   pub log : GoesOnReading old.log new.log
+  pub gave : EachUntil (GavePart p keys attempt i counts) result log.more
   pub room : old.room ≡ new.room + made
   pub plan : new.plan ≡ old.plan
   pub given : OnUnopened result (GivesAtLast (access_of p attempt Reads (part_slot p i (made - 1))) new.last old.log new.log)

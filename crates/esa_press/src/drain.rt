@@ -9,7 +9,7 @@ ghost use Rattle.esa_spec.specs.Draws.{IsDrawn};
 ghost use Rattle.esa_spec.specs.Turns.{order};
 ghost use Rattle.esa_stash.specs.Stash.{queue_at};
 ghost use Rattle.esa_report.specs.declared.item.Item.{Item};
-ghost use Rattle.esa_press.specs.Contents.{AreQueued, AreTailsStored, EndsWriting};
+ghost use Rattle.esa_press.specs.Contents.{AreQueued, AreTailsStored, EndsWriting, GoesOnGiving};
 ghost use Rattle.esa_press.specs.Drained.{DrainEnd};
 ghost use Rattle.esa_press.specs.Stepped.{AreCounted};
 
@@ -50,6 +50,7 @@ impl Press {
             → AreQueued floor.old.plan (G.draws attempt) (turns_made floor.old) record_of floor.old.stash
             → EachTookItsBlock G.draws record_of floor.old → EachTookItsBlock G.draws record_of floor.new }
         ensures writes { NoWriteFailed floor.old.recorder.log → EndsWriting result floor.new.recorder.log }
+        ensures reads { GoesOnGiving G.draws attempt floor.old floor.new result }
     {
         for target in 0..self.plan().b() {
             if let Err(halt) = self.drain_one(floor, attempt, target) {

@@ -1,5 +1,5 @@
 -- What the load of a shuffle was given, what became of it, and what comes out.
-use Rattle.std.proofs.Common.{◌≡◌, ◌≢◌, inl, inr, ℕ, suc, ◌*◌, ◌<◌, List, [], ◌∷◌, ◌++◌, length, map, take, get_or, Option, Some, None, Result, Err, refl, sym, ap, subst, ◌∙◌, append-nil, arith}
+use Rattle.std.proofs.Common.{◌≡◌, ◌≢◌, inl, inr, ℕ, suc, ◌+◌, true, ◌*◌, ◌<◌, List, [], ◌∷◌, ◌++◌, length, map, take, get_or, Option, Some, None, Result, Err, refl, sym, ap, subst, ◌∙◌, append-nil, length-append, arith}
 use Rattle.std.specs.List.{concat}
 use Rattle.std.specs.Prelude.{All}
 use Rattle.std.proofs.lemmas.List.Elements.{All-append, All-cons, All-head, All-map, All-nil, All-tail}
@@ -12,14 +12,15 @@ use Rattle.esa_crowds.specs.Entries.{entries}
 use Rattle.esa_crowds.specs.Kept.{drops_in, sent_from}
 use Rattle.esa_crowds.specs.Rows.{kept_at}
 use Rattle.esa_crowds.proofs.SentLaws.{sent-forwarded}
-use Rattle.esa_device.specs.Logs.{Carried, IsFaithful}
+use Rattle.esa_device.specs.Logs.{Carried, IsBacked, IsFaithful}
 use Rattle.esa_device.specs.Recording.{Recorded}
 use Rattle.esa_device.proofs.LogLaws.{faithful-front}
 use Rattle.esa_ending.specs.Seen.{Seen, turns_in as turns_at}
-use Rattle.esa_floor.specs.Written.{NoWriteFailed, OnlyLastFailed, TookItsBlock}
+use Rattle.esa_floor.specs.Written.{EachButLast, GaveItsBlock, GaveWhatOpens, NoWriteFailed, OnlyLastFailed, TookItsBlock}
 use Rattle.esa_floor.specs.declared.turn.Outcome.{Outcome}
 use Rattle.esa_floor.specs.declared.turn.Outcome.TheVariants as outcome
 use Rattle.esa_floor.proofs.Failing.{Moved, none_but_last}
+use Rattle.esa_floor.proofs.Giving.{each_append, each_before}
 use Rattle.esa_header.specs.Header.{header_length}
 use Rattle.esa_header.specs.Pieces.{HaveLength, pieces}
 use Rattle.esa_header.proofs.PieceLaws.{length-concat, pieces-concat}
@@ -29,24 +30,32 @@ use Rattle.esa_laws.proofs.SizeLaws.{first-all, first-zero}
 use Rattle.esa_lists.specs.Files.{Files}
 use Rattle.esa_outside.specs.Heard.{Event}
 use Rattle.esa_params.specs.Form.{envelope_length, inner_length}
-use Rattle.esa_params.specs.Sizes.{ArePlanned, Sizes, below, first}
+use Rattle.esa_params.specs.Sizes.{ArePlanned, Sizes, below, first, size}
+use Rattle.esa_params.specs.Slots.{at}
 use Rattle.esa_params.specs.declared.form.Form.{Form}
 use Rattle.esa_params.specs.declared.slot.Access.{Access}
 use Rattle.esa_params.specs.declared.slot.Op.TheVariants.{Read, Write as Writes}
+use Rattle.esa_params.specs.declared.slot.Region.{Region}
+use Rattle.esa_params.specs.declared.slot.Region.TheVariants.{Output}
 use Rattle.esa_refusal.specs.declared.status.DeviceAt.TheVariants.{Lay}
 use Rattle.esa_refusal.specs.declared.status.Status.TheVariants as status
 use Rattle.esa_scans.specs.Forwarded.{sent_of}
-use Rattle.esa_scans.specs.Scans.{FailsAt, carried_from, items_from, reads}
+use Rattle.esa_scans.specs.Scans.{AreOpen, FailsAt, GaveOpen, carried_from, items_from, reads}
 use Rattle.esa_scans.proofs.FaithfulLaws.{scan-reads}
 use Rattle.esa_shuffle.specs.Loading.{HasGiven}
-use Rattle.esa_shuffle.specs.Records.{IsShuffledFrom}
+use Rattle.esa_shuffle.specs.Records.{IsShuffledFrom, IsWrittenFrom, ReadsOf}
 use Rattle.esa_shuffle.specs.Runs.{IsShuffled}
+use Rattle.esa_shuffle.proofs.Giving.{reads_weaker}
+use Rattle.esa_shuffle.proofs.Inputs.{written_nothing, written_read}
 use Rattle.esa_shuffle.proofs.Output.{batch_comes_out}
 use Rattle.esa_shuffling.specs.Drawn.{draws_of}
 use Rattle.esa_spec.specs.Draws.{Draw, IsDrawn}
+use Rattle.esa_spec.specs.Fronts.{items_at}
 use Rattle.esa_spec.specs.Histories.{lists}
 use Rattle.esa_spec.specs.declared.event.Verdict.{Verdict}
 use Rattle.esa_spec.specs.Traces.{good_attempt, read_output, scan}
+use Rattle.esa_spec.specs.Turns.{order}
+use Rattle.esa_vault.specs.Seals.{opens}
 use Rattle.esa_vault.specs.Traffic.{given_by}
 use Rattle.esa_vault.specs.declared.fault.VaultFault.{VaultFault}
 use Rattle.esa_vault.specs.declared.fault.VaultFault.TheVariants.{Device, Tampered}
@@ -56,7 +65,7 @@ use Rattle.esa_command.specs.Taking.{name_of}
 use Rattle.esa_running.specs.ComingOut.{batch_told, batch_part, batch_record, IsLoaded, Became, AreOfBatch, IsMadeOf, kept_of}
 use Rattle.esa_running.specs.Forwarding.{Forwards, BreaksOff}
 use Rattle.esa_running.specs.Run.{Asked}
-use Rattle.esa_running.specs.RunOwes.{EndsShuffle, fault_status}
+use Rattle.esa_running.specs.RunOwes.{EndsShuffle, IsRecorded, fault_status}
 use Rattle.esa_running.specs.Wanted.{sizes_in, turns_by, block_keys, outer_keys, drop_key}
 use Rattle.esa_running.proofs.SentLaws.{forwarded_whole, same_number}
 
@@ -147,6 +156,22 @@ none_became asked log none = record {
       let Took = TookItsBlock (sizes_in asked) (block_keys asked) asked.draws (batch_record asked []) (turns_at (lists (sizes_in asked).workers [])) in
       subst (All Took) (sym none) (All-nil Took);
   failed = subst OnlyLastFailed (sym none) (none_but_last [] (All-nil Moved));
+  written = subst (IsWrittenFrom (sizes_in asked) (block_keys asked) []) (sym none) (written_nothing (sizes_in asked) (block_keys asked));
+  gave =
+      subst (EachButLast (GaveWhatOpens (sizes_in asked) (block_keys asked) asked.draws (turns_at (lists (sizes_in asked).workers [])))) (sym none)
+      (λ x entry inside. absurd (omega (arith, inside)));
+}
+
+-- no access is in no log
+none_in : (before after : List Carried) (entry : Carried) → [] ≡ before ++ entry ∷ after → ⊥
+none_in before after entry is = let long = ap length is in let parts = length-append before (entry ∷ after) in omega (arith, long, parts)
+
+pub none_recorded : {V : Type 0} (told : V → Option (List (List ℕ))) (p : Sizes) (now : Recorded V) → now.trace ≡ [] → now.log ≡ [] → IsRecorded told p [] now
+none_recorded told p now no_trace no_log = record {
+  plan = λ some. absurd (some refl);
+  logged = ap (map (λ (entry : Carried). entry.access)) no_log ∙ sym no_trace;
+  backed = subst (IsBacked (Some p) (told now.device)) (sym no_log)
+      (λ blocks tells. ((λ number bytes took. absurd (let never = took.1 in cc never)), (λ before after entry given written is gave took. absurd (none_in before after entry is))));
 }
 
 -- ---- what became of it
@@ -195,6 +220,77 @@ module _ {V : Type 0} (told : V → Option (List (List ℕ))) (faults : V → �
     | inr f ↦ fails_on {T = T} fault (scan (sizes_in asked) a) breaks.0 (scan-reads (sizes_in asked) a) f
   ]
 
+-- what its reads gave opens
+abbrev pub Opens : Asked → (history : List ℕ) → Carried → Type 0
+Opens asked history = GaveWhatOpens (sizes_in asked) (block_keys asked) asked.draws (turns_at (lists (sizes_in asked).workers history))
+
+pub made_opens : (asked : Asked) (given history : List ℕ) (log : List Carried) (o : Outcome) → IsMadeOf asked history log o given → ReadsOf (Opens asked history) o log
+made_opens asked given history log o m =
+    reads_weaker (GaveItsBlock (sizes_in asked) (block_keys asked) asked.draws (turns_at (lists (sizes_in asked).workers history))) (Opens asked history)
+    (λ entry gave. gave.opened) o log m.shuffled.gave
+
+-- so does what the scans were given
+module _ (asked : Asked) (history : List ℕ) (a : ℕ) where
+  abbrev IsOutput : Access → Type 0
+  IsOutput access = (access.region ≡ Output) × (access.attempt ≡ a)
+
+  carried_opens : (j : ℕ) (blocks : List (List ℕ)) → AreOpen (sizes_in asked) (block_keys asked) a j blocks → All (Opens asked history) (carried_from (sizes_in asked) a j blocks)
+  carried_opens j [] open_all = All-nil (Opens asked history)
+  carried_opens j (bytes ∷ blocks) open_all =
+      All-cons (Opens asked history) (record { access = read_output (sizes_in asked) a j; bytes = Some bytes }) (carried_from (sizes_in asked) a (suc j) blocks)
+      (λ reading. (bytes, refl, open_all.0)) (carried_opens (suc j) blocks open_all.1)
+
+  one_opens : (entry : Carried) → GaveOpen (sizes_in asked) (block_keys asked) a entry → IsOutput entry.access → Opens asked history entry
+  one_opens entry gave of = λ reading.
+      let p = sizes_in asked in
+      let x = entry.access in
+      let turns = turns_at (lists p.workers history) x.attempt in (
+        gave.0,
+        gave.1,
+        subst (λ (r : Region). opens p (block_keys asked) (at r x.index) x.attempt (items_at p (asked.draws x.attempt) (order p.b turns) r x.index) gave.0 ≡ true) (sym of.0)
+            (subst (λ (n : ℕ). opens p (block_keys asked) (at Output x.index) n (size p x.index) gave.0 ≡ true) (sym of.1) gave.2),
+      )
+
+  passed_opens : (passed : List Carried) → All (GaveOpen (sizes_in asked) (block_keys asked) a) passed → All IsOutput (map (λ (entry : Carried). entry.access) passed)
+      → All (Opens asked history) passed
+  passed_opens [] gave of = All-nil (Opens asked history)
+  passed_opens (entry ∷ passed) gave of =
+      let accesses = map (λ (entry : Carried). entry.access) passed in
+      All-cons (Opens asked history) entry passed
+      (one_opens entry (All-head (GaveOpen (sizes_in asked) (block_keys asked) a) entry passed gave) (All-head IsOutput entry.access accesses of))
+      (passed_opens passed (All-tail (GaveOpen (sizes_in asked) (block_keys asked) a) entry passed gave) (All-tail IsOutput entry.access accesses of))
+
+  outputs : (n : ℕ) → All IsOutput (map (read_output (sizes_in asked) a) (below n))
+  outputs n = All-map IsOutput (read_output (sizes_in asked) a) (below n) (λ k d inside. (refl, refl))
+
+  module _ {V : Type 0} (told : V → Option (List (List ℕ))) (faults : V → ℕ) (old new : Recorded V) (before : All (Opens asked history) old.log) where
+    pub forwarded_opens : (envelopes : List (List ℕ)) → Forwards told faults asked a old new envelopes → All (Opens asked history) new.log
+    forwarded_opens envelopes f =
+        let p = sizes_in asked in
+        let done = f.forwarded in
+        subst (All (Opens asked history)) (sym done.log)
+        (All-append (Opens asked history) old.log (carried_from p a 0 done.first ++ carried_from p a 0 done.second) before
+        (All-append (Opens asked history) (carried_from p a 0 done.first) (carried_from p a 0 done.second)
+        (carried_opens 0 done.first done.opened_first) (carried_opens 0 done.second done.opened_second)))
+
+    fails_open : {T : Type 0} (fault : VaultFault) (earlier : List Access) (j : ℕ) → All IsOutput earlier
+        → FailsAt {V = V} {T = T} told faults (sizes_in asked) (block_keys asked) a earlier j old new (Err fault) → EachButLast (Opens asked history) new.log
+    fails_open {T} fault earlier j of failed =
+        let p = sizes_in asked in
+        let ends = failed.log in
+        let result : Result T VaultFault = Err fault in
+        let last : Carried = record { access = read_output p a j; bytes = given_by result new.last } in
+        let these = All-append IsOutput earlier (reads p a j) of (outputs j) in
+        let passed = passed_opens ends.passed ends.opened (subst (All IsOutput) (sym ends.accesses) these) in
+        subst (EachButLast (Opens asked history)) (sym ends.log)
+        (each_append (Opens asked history) old.log (ends.passed ++ last ∷ []) before (each_before (Opens asked history) ends.passed last passed))
+
+    pub broken_opens : {T : Type 0} (fault : VaultFault) → BreaksOff {V = V} {T = T} told faults asked a old new (Err fault) → EachButLast (Opens asked history) new.log
+    broken_opens {T} fault breaks = elim breaks.1 [
+      | inl f ↦ fails_open {T = T} fault [] breaks.0 (All-nil IsOutput) f
+      | inr f ↦ fails_open {T = T} fault (scan (sizes_in asked) a) breaks.0 (outputs (sizes_in asked).b) f
+    ]
+
 module _ (asked : Asked) (given history : List ℕ) where
   not_writing : (entry : Carried) → IsReading entry → entry.access.op ≡ Writes → ⊥
   not_writing entry reads writes = let never : Read ≡ Writes = sym reads ∙ writes in cc never
@@ -222,13 +318,16 @@ module _ (asked : Asked) (given history : List ℕ) where
     none_on : NoWriteFailed old → NoWriteFailed new
     none_on none = subst NoWriteFailed (sym on.1) (All-append Moved old on.0 none (reads_moved on.0 on.2))
 
-    -- after the scans of an output of which no write failed
-    pub became_well : NoWriteFailed old → Became asked given history new status.Ok
-    became_well none = record { took = took_on; failed = none_on none }
+    written_on : IsWrittenFrom (sizes_in asked) (block_keys asked) given new
+    written_on = subst (IsWrittenFrom (sizes_in asked) (block_keys asked) given) (sym on.1) (written_read (sizes_in asked) (block_keys asked) given old on.0 on.2 m.shuffled.written)
 
-    pub became_broken : (fault : VaultFault) → NoWriteFailed old → Became asked given history new (fault_status fault)
-    became_broken (Device number) none = record { took = took_on; failed = none_but_last new (none_on none) }
-    became_broken (Tampered number) none = record { took = took_on; failed = none_on none }
+    -- after the scans of an output of which no write failed
+    pub became_well : NoWriteFailed old → All (Opens asked history) new → Became asked given history new status.Ok
+    became_well none opens = record { took = took_on; failed = none_on none; written = written_on; gave = opens }
+
+    pub became_broken : (fault : VaultFault) → NoWriteFailed old → EachButLast (Opens asked history) new → Became asked given history new (fault_status fault)
+    became_broken (Device number) none opens = record { took = took_on; failed = none_but_last new (none_on none); written = written_on; gave = opens }
+    became_broken (Tampered number) none opens = record { took = took_on; failed = none_on none; written = written_on; gave = opens }
 
 -- ---- what comes out
 

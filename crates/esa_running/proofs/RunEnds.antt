@@ -20,7 +20,7 @@ use Rattle.esa_running.specs.declared.purpose.Purpose.{Purpose}
 use Rattle.esa_running.specs.ComingOut.{IsMadeOf}
 use Rattle.esa_running.specs.Forwarding.{Forwards, BreaksOff}
 use Rattle.esa_running.specs.Run.{Asked}
-use Rattle.esa_running.specs.RunOwes.{fault_status, records_owed, HasSucceeded, HasEnded}
+use Rattle.esa_running.specs.RunOwes.{fault_status, records_owed, HasShuffled, HasSucceeded, HasEnded}
 use Rattle.esa_running.specs.RunWork.{FitFiles, success_work}
 use Rattle.esa_running.specs.Wanted.{sizes_in, turns_by, block_keys, drop_key}
 use Rattle.esa_running.proofs.ComingOut.{of_batch}
@@ -38,13 +38,14 @@ module _ {V : Type 0} (told : V → Option (List (List ℕ))) (faults : V → �
       shuffled_succeeds told faults (sizes_in asked) asked.draws (turns_by asked history) device batch now history a old new s (block_keys asked) (drop_key asked) asked.drops (number_of asked.job field.T) (concat envelopes) f.forwarded
 
   module _ (planned : ArePlanned (sizes_in asked)) (drawn : IsDrawn (sizes_in asked) (asked.draws a)) (given : List ℕ) (made : IsMadeOf asked history old.log (outcome.Shuffled a) given) where
-    pub succeeded : (purpose : Purpose) (envelopes : List (List ℕ)) → Forwards told faults asked a old new envelopes → HasSucceeded purpose told faults asked given seen new (success_work purpose asked a envelopes new.trace history)
-    succeeded purpose envelopes f =
+    pub succeeded : HasShuffled asked seen old → (purpose : Purpose) (envelopes : List (List ℕ)) → Forwards told faults asked a old new envelopes → HasSucceeded purpose told faults asked given seen new (success_work purpose asked a envelopes new.trace history)
+    succeeded shuffled purpose envelopes f =
         let ends = succeeds envelopes f in
         record {
           attempt = a;
           ends = ends;
           shuffled = old;
+          made = shuffled;
           envelopes = envelopes;
           forwards = f;
           comes_out = of_batch told faults asked a old new envelopes f history given planned ends.planned drawn ends.good made;

@@ -10,8 +10,8 @@ use Rattle.esa_spec.specs.Draws.{Draw}
 use Rattle.esa_spec.specs.Fronts.{Begins, EndsWith}
 use Rattle.esa_spec.specs.Traces.{good_attempt, read_output, scan, scans, shuffle_trace, trace}
 use Rattle.esa_ending.specs.Endings.{Succeeds, IsCutAt, DeviceFails, BlockIsTampered}
-use Rattle.esa_ending.specs.Seen.{Seen, Rises, Stays, IsCalm, stored, HasHistory, AreCut}
-use Rattle.esa_ending.proofs.CutLaws.{cut-behind, succeeded, cut-at}
+use Rattle.esa_ending.specs.Seen.{Seen, Rises, Stays, IsCalm, stored, HasHistory, AreCut, NoTurnBehind}
+use Rattle.esa_ending.proofs.CutLaws.{cut-behind, none-behind, succeeded, cut-at}
 use Rattle.esa_ending.proofs.FrontLaws.{onward, joined-front, behind, map-front}
 use Rattle.esa_scans.specs.Scans.{reads}
 
@@ -54,7 +54,8 @@ module _ (p : Sizes) (ds : ℕ → Draw) (hs : List (List ℕ)) (seen : Seen) (a
         (subst (λ xs. Begins (shuffled ++ (before ++ reads p a (j + 1))) xs) (sym all) (behind shuffled (before ++ reads p a (j + 1)) (scan p a ++ scan p a) (front before j where_is inside)))
 
     cut : IsCutAt p ds hs seen (read_output p a j)
-    cut = cut-at p ds hs seen (read_output p a j) history (subst (λ xs. AreCut xs hs) (sym turns) (cut-behind hs (a + 1))) last begins
+    cut = cut-at p ds hs seen (read_output p a j) history (subst (λ xs. AreCut xs hs) (sym turns) (cut-behind hs (a + 1)))
+        (subst (λ xs. NoTurnBehind p xs hs (read_output p a j)) (sym turns) (none-behind p hs (a + 1) (read_output p a j))) last begins
 
     pub scan_fails : Rises seen.device → Stays seen.batch → DeviceFails p ds hs seen (number_of p (at Output j))
     scan_fails rises stays = record { access = read_output p a j; cut = cut; slot = refl; cause = rises; batch = stays }

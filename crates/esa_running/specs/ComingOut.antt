@@ -7,7 +7,7 @@ use Rattle.esa_device.specs.Logs.{Carried, IsFaithful}
 use Rattle.esa_ending.specs.Endings.{ComesOut}
 use Rattle.esa_ending.specs.Seen.{turns_in as turns_at}
 use Rattle.esa_envelope.specs.declared.keys.Keys.{Keys}
-use Rattle.esa_floor.specs.Written.{NoWriteFailed, OnlyLastFailed, TookItsBlock}
+use Rattle.esa_floor.specs.Written.{EachButLast, GaveWhatOpens, NoWriteFailed, OnlyLastFailed, TookItsBlock}
 use Rattle.esa_floor.specs.declared.turn.Outcome.{Outcome}
 use Rattle.esa_floor.specs.declared.turn.Outcome.TheVariants as outcome
 use Rattle.esa_header.specs.Header.{header_length}
@@ -24,7 +24,7 @@ use Rattle.esa_command.specs.Asked.{number_of}
 use Rattle.esa_command.specs.Stand.{Stand}
 use Rattle.esa_command.specs.Taking.{name_of}
 use Rattle.esa_shuffle.specs.Loading.{IsGiven}
-use Rattle.esa_shuffle.specs.Records.{IsShuffledFrom, record_at, records_given}
+use Rattle.esa_shuffle.specs.Records.{IsShuffledFrom, IsWrittenFrom, record_at, records_given}
 use Rattle.esa_running.specs.Run.{Asked}
 use Rattle.esa_running.specs.Wanted.{sizes_in, turns_by, block_keys, outer_keys, drop_key}
 
@@ -66,12 +66,22 @@ abbrev pub WritesBy : Status → List Carried → Type 0
 WritesBy (status.DeviceFault at) log = OnlyLastFailed log
 WritesBy owed log = NoWriteFailed log
 
+-- which reads gave blocks that open, by the status that is owed: all, but the last access, where the run stopped at it
+abbrev pub ReadsBy : (Carried → Type 0) → Status → List Carried → Type 0
+ReadsBy Fact (status.DeviceFault at) log = EachButLast Fact log
+ReadsBy Fact (status.Tampered number) log = EachButLast Fact log
+ReadsBy Fact owed log = All Fact log
+
 -- however a shuffle ended: where the log of all its accesses is faithful, each write outside the input took the block that
--- the turns of its attempt make of the records of the batch
+-- the turns of its attempt make of the records of the batch. Whatever the device, each read gave a block that opens for its
+-- slot, its attempt and the number of items that those turns put there
 pub record Became (asked : Asked) (given history : List ℕ) (log : List Carried) (owed : Status) : Type 0 where
   pub took : IsFaithful (sizes_in asked) log
       → All (TookItsBlock (sizes_in asked) (block_keys asked) asked.draws (batch_record asked given) (turns_at (lists (sizes_in asked).workers history))) log
   pub failed : WritesBy owed log
+  pub gave : ReadsBy (GaveWhatOpens (sizes_in asked) (block_keys asked) asked.draws (turns_at (lists (sizes_in asked).workers history))) owed log
+  -- whatever the device did, the input was written from the bytes that the load was given, and it was given no others
+  pub written : IsWrittenFrom (sizes_in asked) (block_keys asked) given log
 
 -- ---- what comes out
 

@@ -1,13 +1,15 @@
 -- What run and shuffle owe, by how the shuffle went.
-use Rattle.std.specs.Prelude.{◌≡◌, ◌⊎◌, ℕ, List, [], length, Option}
+use Rattle.std.specs.Prelude.{◌≡◌, ◌≢◌, ◌⊎◌, ℕ, List, [], length, map, Option, Some}
 use Rattle.esa_lists.specs.Files.{Files}
-use Rattle.esa_device.specs.Logs.{IsFaithful}
+use Rattle.esa_device.specs.Logs.{Carried, IsBacked, IsFaithful}
 use Rattle.esa_device.specs.Recording.{Recorded}
 use Rattle.esa_outside.specs.Cause.{Rose}
 use Rattle.esa_outside.specs.declared.Role.TheVariants as role
 use Rattle.esa_ending.specs.Endings.{Succeeds, Overflows, DeviceFails, BlockIsTampered, BatchFails}
-use Rattle.esa_ending.specs.Seen.{Seen}
+use Rattle.esa_ending.specs.Seen.{Seen, stored}
 use Rattle.esa_floor.specs.declared.turn.Outcome.{Outcome}
+use Rattle.esa_params.specs.Sizes.{Sizes}
+use Rattle.esa_spec.specs.Traces.{shuffle_trace}
 use Rattle.esa_spec.specs.declared.event.Verdict.{Verdict}
 use Rattle.esa_refusal.specs.declared.failures.Failures.{Failures}
 use Rattle.esa_refusal.specs.declared.status.DeviceAt.TheVariants.{Lay, Slot as AtSlot}
@@ -78,12 +80,19 @@ pub record IsUnloaded (asked : Asked) (seen : Seen) (work : Work) : Type 0 where
   pub ends : BatchFails (sizes_in asked) seen (length seen.trace)
   pub owed : work ≡ failed_work (status.OutsideFault role.Input) (where_made seen.trace (records_owed asked seen))
 
+-- the recorder of what is asked for before its output was scanned: its log is that of the shuffle
+pub record HasShuffled {V : Type 0} (asked : Asked) (seen : Seen) (shuffled : Recorded V) : Type 0 where
+  pub plan : shuffled.plan ≡ Some (sizes_in asked)
+  pub trace : shuffled.trace ≡ shuffle_trace (sizes_in asked) asked.draws (stored (sizes_in asked) seen)
+  pub logged : map (λ (entry : Carried). entry.access) shuffled.log ≡ shuffled.trace
+
 -- the shuffle succeeded: what is forwarded of its output is counted or handed on
 pub record HasSucceeded {V : Type 0} (purpose : Purpose) (told : V → Option (List (List ℕ))) (faults : V → ℕ) (asked : Asked) (given : List ℕ) (seen : Seen) (now : Recorded V) (work : Work) : Type 0 where
   pub attempt : ℕ
   pub ends : Succeeds (sizes_in asked) asked.draws (turns_by asked seen.history) seen attempt
   -- the recorder before the output was scanned, and what is forwarded
   pub shuffled : Recorded V
+  pub made : HasShuffled asked seen shuffled
   pub envelopes : List (List ℕ)
   pub forwards : Forwards told faults asked attempt shuffled now envelopes
   -- where the device gave back what was written, these are of the records of the batch
@@ -98,6 +107,13 @@ HasEnded purpose told faults asked given seen now work =
     HasSucceeded purpose told faults asked given seen now work
     ⊎ HasOverflowed asked seen work ⊎ HasFailedAt asked seen work ⊎ IsTamperedAt asked seen now.last work ⊎ IsUnloaded asked seen work ⊎ IsNotLaid seen work
 
+-- the recorder of a shuffle: once the load was begun it is ready for these sizes, its log is of the accesses that were made, and
+-- where its device tells its blocks, each has what was written there last, and the log is faithful
+pub record IsRecorded {V : Type 0} (told : V → Option (List (List ℕ))) (p : Sizes) (history : List ℕ) (now : Recorded V) : Type 0 where
+  pub plan : history ≢ [] → now.plan ≡ Some p
+  pub logged : map (λ (entry : Carried). entry.access) now.log ≡ now.trace
+  pub backed : IsBacked (Some p) (told now.device) now.log
+
 -- what a shuffle for a purpose owes, whose device counted so many faults before it: by what was asked, and what is seen of it.
 -- It reads the cabinet and changes no file
 pub record RunOwes {V : Type 0} (purpose : Purpose) (told : V → Option (List (List ℕ))) (faults : V → ℕ) (before : ℕ) (now : Recorded V) (history : List ℕ) (asked : Asked) (taken acted : Stand Files) (work : Work) : Type 0 where
@@ -106,4 +122,5 @@ pub record RunOwes {V : Type 0} (purpose : Purpose) (told : V → Option (List (
   pub load : IsLoaded asked taken acted history given
   pub became : Became asked given history now.log work.ended
   pub ends : HasEnded purpose told faults asked given (seen_of faults before taken.faults now history acted.faults) now work
+  pub recorder : IsRecorded told (sizes_in asked) history now
   pub still : acted.told ≡ taken.told

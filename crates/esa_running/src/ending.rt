@@ -80,7 +80,7 @@ pub(crate) fn work_ended<K: Cabinet, P: Printer, V: Device>(
     requires fits { FitFiles (sizes_in (run_taken input.now)).workers recorder.old.trace history.now }
     requires ends { (device : ℕ) × (batch : ℕ) × EndsShuffle (run_taken input.now) (seen_of V.faults device batch recorder.old history.now (K.faults cabinet.old))
         recorder.old.last failures.now outcome }
-    ensures { (device batch : ℕ) (given : List ℕ) → EndsShuffle (run_taken input.now) (seen_of V.faults device batch recorder.old history.now (K.faults cabinet.old))
+    ensures works { (device batch : ℕ) (given : List ℕ) → EndsShuffle (run_taken input.now) (seen_of V.faults device batch recorder.old history.now (K.faults cabinet.old))
         recorder.old.last failures.now outcome
         → IsMadeOf (run_taken input.now) history.now recorder.old.log outcome given
         → (work : Work) × HasEnded (purpose_of store.outlet) V.told V.faults (run_taken input.now) given
@@ -88,6 +88,7 @@ pub(crate) fn work_ended<K: Cabinet, P: Printer, V: Device>(
         × Became (run_taken input.now) given history.now recorder.new.log work.ended
         × Settles work (stand K.told K.faults K.heard cabinet.old) (stand K.told K.faults K.heard cabinet.new)
         (stand P.told P.faults P.heard printer.old) (stand P.told P.faults P.heard printer.new) result }
+    ensures plan { recorder.new.plan ≡ recorder.old.plan }
 {
     match outcome {
         Outcome::Shuffled { attempt } => {

@@ -18,7 +18,7 @@ ghost use Rattle.esa_running.specs.Outlets.{purpose_of, HasRoom};
 ghost use Rattle.esa_running.specs.Purpose.{command_for};
 ghost use Rattle.esa_running.specs.Run.{IsInside, run_steps};
 ghost use Rattle.esa_running.specs.RunEnded.{HasActed, HasWorked, IsIdle, history_in};
-ghost use Rattle.esa_running.specs.RunOwes.{EndsShuffle, RunOwes};
+ghost use Rattle.esa_running.specs.RunOwes.{EndsShuffle, IsRecorded, RunOwes};
 ghost use Rattle.esa_running.specs.RunTaken.{IsTaken, run_taken};
 ghost use Rattle.esa_running.specs.Wanted.{block_keys, outer_keys, turns_by, HasFewAttempts};
 
@@ -143,6 +143,7 @@ pub(crate) fn end_ran<K: Cabinet, P: Printer, V: Device>(
         (stand K.told K.faults K.heard cabinet.old) (stand K.told K.faults K.heard cabinet.new)
         (stand P.told P.faults P.heard printer.old) (stand P.told P.faults P.heard printer.new) result.end }
     ensures history { history_in result.history ≡ ran.history }
+    ensures recorder { IsRecorded V.told input.now.plan (history_in result.history) result.recorder }
 {
     let Ran {
         outcome,
@@ -160,6 +161,7 @@ pub(crate) fn end_ran<K: Cabinet, P: Printer, V: Device>(
         history.entries(),
         store,
     );
+    recorder.keeps_its_log();
     Ended {
         end,
         recorder,

@@ -64,7 +64,7 @@ pub(crate) fn work_shuffled<K: Cabinet, P: Printer, V: Device>(
     requires room { 2 * input.now.plan.b ≤ recorder.old.room }
     requires shuffled { (device : ℕ) × (batch : ℕ) × IsShuffled (sizes_in (run_taken input.now)) (run_taken input.now).draws (turns_by (run_taken input.now) history.now)
         (seen_of V.faults device batch recorder.old history.now (K.faults cabinet.old)) attempt }
-    ensures { (device batch : ℕ) (given : List ℕ) → IsShuffled (sizes_in (run_taken input.now)) (run_taken input.now).draws (turns_by (run_taken input.now) history.now)
+    ensures works { (device batch : ℕ) (given : List ℕ) → IsShuffled (sizes_in (run_taken input.now)) (run_taken input.now).draws (turns_by (run_taken input.now) history.now)
         (seen_of V.faults device batch recorder.old history.now (K.faults cabinet.old)) attempt
         → IsMadeOf (run_taken input.now) history.now recorder.old.log (Shuffled attempt) given
         → (work : Work) × HasEnded (purpose_of store.outlet) V.told V.faults (run_taken input.now) given
@@ -72,7 +72,9 @@ pub(crate) fn work_shuffled<K: Cabinet, P: Printer, V: Device>(
         × Became (run_taken input.now) given history.now recorder.new.log work.ended
         × Settles work (stand K.told K.faults K.heard cabinet.old) (stand K.told K.faults K.heard cabinet.new)
         (stand P.told P.faults P.heard printer.old) (stand P.told P.faults P.heard printer.new) result }
+    ensures plan { recorder.new.plan ≡ recorder.old.plan }
 {
+    recorder.keeps_its_log();
     let Store { mut tables, outlet } = store;
     match forward_output(recorder, input, attempt, &mut tables) {
         Ok(()) => {

@@ -42,7 +42,7 @@ module _ {V : Type 0} (faults : V → ℕ) (ds : ℕ → Draw) (hs : List (List 
       let end = may.stands.state.2 in
       record {
         access = end.1.0;
-        cut = cut-in-shuffle f.plan ds hs (seen f.plan.workers) end.1.0 may.history may.turns end.1.1 end.0;
+        cut = cut-in-shuffle f.plan ds hs (seen f.plan.workers) end.1.0 may.history may.turns (may.behind end.1.0 end.1.1) end.1.1 end.0;
         slot = end.1.2;
         cause = end.2;
         batch = may.batch;
@@ -51,7 +51,7 @@ module _ {V : Type 0} (faults : V → ℕ) (ds : ℕ → Draw) (hs : List (List 
       let end = may.stands.state.2 in
       record {
         access = end.1.0;
-        cut = cut-in-shuffle f.plan ds hs (seen f.plan.workers) end.1.0 may.history may.turns end.1.1 end.0;
+        cut = cut-in-shuffle f.plan ds hs (seen f.plan.workers) end.1.0 may.history may.turns (may.behind end.1.0 end.1.1) end.1.1 end.0;
         slot = end.1.3;
         reads = end.1.2;
         closed = end.1.4;
@@ -114,3 +114,9 @@ module _ (p : Sizes) (ds : ℕ → Draw) (hs : List (List ℕ)) (seen : Seen) (o
             let few = fewer (writes_in p a number) seen.trace (trace p ds hs) front in
             omega (arith, once, few);
       }
+
+-- so do those of a floor on which a run may end
+pub may_front : {V : Type 0} (faults : V → ℕ) (p : Sizes) (ds : ℕ → Draw) (hs : List (List ℕ)) (before now : ℕ) (f : Parts V) (failures : List Verdict) (o : Outcome)
+    → MayEnd faults p ds hs before now f failures o → Begins f.recorder.trace (trace p ds hs)
+may_front faults p ds hs before now f failures o may =
+    front_is p ds hs (seen faults ds hs before now f failures f.plan.workers) (opens_last p f.run f.recorder.last) failures o (ends faults ds hs before now f failures p o may).outcome

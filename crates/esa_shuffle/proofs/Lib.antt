@@ -1,5 +1,7 @@
 pub mod Contents
 pub mod Ending
+pub mod Giving
+pub mod Inputs
 pub mod Loaded
 pub mod Output
 pub mod Records

@@ -1,5 +1,5 @@
 -- A floor after the load.
-use Rattle.std.proofs.Common.{◌≡◌, true, false, ℕ, ◌+◌, ◌-◌, ◌<◌, ◌≤◌, Option, List, [], ◌∷◌, ◌++◌, length, map, Result, Err, refl, sym, ap, ◌∙◌, subst, arith, add-one}
+use Rattle.std.proofs.Common.{◌≡◌, true, false, ℕ, ◌+◌, ◌-◌, ◌<◌, ◌≤◌, Option, List, [], ◌∷◌, ◌++◌, length, map, Result, Ok, Err, refl, sym, ap, ◌∙◌, subst, arith, add-one}
 use Rattle.std.proofs.lemmas.List.{length-map, map-append}
 use Rattle.std.proofs.lemmas.List.FromFn.{length-range_with_len}
 use Rattle.std.specs.List.{range_with_len}
@@ -19,14 +19,16 @@ use Rattle.esa_floor.specs.Ends.{IsLoading}
 use Rattle.esa_floor.specs.Keeping.{IsInput}
 use Rattle.esa_floor.specs.Parts.{Parts, ended_as}
 use Rattle.esa_floor.specs.Standing.{IsOf, Stands}
+use Rattle.esa_floor.specs.declared.turn.Outcome.{Outcome}
 use Rattle.esa_floor.specs.declared.turn.Outcome.TheVariants as outcome
 use Rattle.esa_load.specs.Loads.{AreGiven, LoadEnd, Source, failed_block, written_blocks}
 use Rattle.esa_load.specs.declared.fault.LoadFault.{LoadFault}
 use Rattle.esa_load.specs.declared.fault.LoadFault.TheVariants.{Batch, Device}
 use Rattle.esa_crew.specs.Loads.{IsLoaded}
 use Rattle.esa_crew.proofs.Finishing.{batch_fails, load_fails}
-use Rattle.esa_shuffle.specs.Loading.{EndsLoad, HasGiven, IsGiven, IsUnbegun, TakesInput}
-use Rattle.esa_shuffle.specs.Records.{record_at}
+use Rattle.esa_shuffle.specs.Loading.{EndsLoad, HasGiven, IsGiven, IsUnbegun, TakesBatch, TakesInput}
+use Rattle.esa_shuffle.specs.Records.{IsWrittenFrom, inputs_written, record_at}
+use Rattle.esa_shuffle.proofs.Inputs.{blocks_count, written_well}
 
 -- where the log is faithful, it has the records that were given as its input
 abbrev pub IsInputOfLog : Sizes → Keys → Keys → List ℕ → List Carried → Type 0
@@ -151,19 +153,29 @@ module _ {V : Type 0} (faults : V → ℕ) (p : Sizes) (ds : ℕ → Draw) (f : 
 
     pub all_given : AreGiven f.plan told part f.plan.b given (written_blocks f.plan f.run given f.plan.b) f.recorder r before after
         → IsInputOfLog f.plan f.outer f.run given (f.recorder.log ++ written_blocks f.plan f.run given f.plan.b)
-        → HasGiven f.plan told part before.heard after.heard (true ≡ true) (TakesInput loaded)
-    all_given are is = record {
-      given = given;
-      load = given_of (true ≡ true) f.plan.b (written_blocks f.plan f.run given f.plan.b) (omega arith) are (λ _. refl);
-      became = takes_input are is;
-    }
+        → (done : Unit {0}) → HasGiven f.plan told part before.heard after.heard (true ≡ true) (TakesBatch f loaded (Ok done))
+    all_given are is done =
+        let blocks = written_blocks f.plan f.run given f.plan.b in
+        record {
+          given = given;
+          load = given_of (true ≡ true) f.plan.b blocks (omega arith) are (λ _. refl);
+          became = record {
+            written = λ none. subst (IsWrittenFrom f.plan f.run given) (sym (log_is f.plan.b blocks are none)) (written_well f.plan f.run given f.plan.b are.bytes);
+            whole = λ none. ap inputs_written (log_is f.plan.b blocks are none) ∙ blocks_count f.plan f.run given f.plan.b;
+            input = takes_input are is;
+          };
+        }
 
     pub some_given : (k : ℕ) (entries : List Carried) → k ≤ f.plan.b → AreGiven f.plan told part k given entries f.recorder r before after
-        → HasGiven f.plan told part before.heard after.heard (false ≡ true) (λ bytes. Unit {0})
-    some_given k entries few are = record {
+        → IsWrittenFrom f.plan f.run given entries → (o : Outcome) → HasGiven f.plan told part before.heard after.heard (false ≡ true) (TakesBatch {T = Unit {0}} f loaded (Err o))
+    some_given k entries few are written o = record {
       given = given;
       load = given_of (false ≡ true) k entries few are (λ (never : false ≡ true). absurd (cc never));
-      became = tt;
+      became = record {
+        written = λ none. subst (IsWrittenFrom f.plan f.run given) (sym (log_is k entries are none)) written;
+        whole = λ none. tt;
+        input = tt;
+      };
     }
 
 -- the same, where it is all under another condition

@@ -1,8 +1,9 @@
 -- What becomes of the records that a batch gave.
-use Rattle.std.proofs.Common.{◌≡◌, ℕ, ◌+◌, ◌*◌, ◌<◌, ◌≤◌, List, [], ◌∷◌, ◌++◌, All, length, sym, ap, ◌∙◌, subst, arith, inl, inr, mul_comm}
+use Rattle.std.proofs.Common.{◌≡◌, ℕ, ◌+◌, ◌*◌, ◌<◌, ◌≤◌, List, [], ◌∷◌, ◌++◌, All, Ok, length, map, sym, ap, ◌∙◌, subst, arith, inl, inr, mul_comm}
 use Rattle.std.proofs.Math.Nat.{mul-le-mul_right}
 use Rattle.std.proofs.lemmas.Bool.{cases_lt}
 use Rattle.std.proofs.lemmas.List.{length-take, length-drop, nil_from_length}
+use Rattle.std.proofs.lemmas.List.Elements.{All-weaker}
 use Rattle.esa_device.specs.Logs.{Carried, IsFaithful}
 use Rattle.esa_ending.specs.Seen.{turns_in}
 use Rattle.esa_envelope.specs.declared.keys.Keys.{Keys}
@@ -15,6 +16,7 @@ use Rattle.esa_report.specs.declared.item.Item.{Item}
 use Rattle.esa_spec.specs.Draws.{Draw}
 use Rattle.esa_spec.specs.Fronts.{Begins}
 use Rattle.esa_spec.specs.Histories.{lists}
+use Rattle.esa_spec.specs.Traces.{trace}
 use Rattle.esa_envelope.specs.Envelope.{opened}
 use Rattle.esa_vault.specs.Items.{item_of}
 use Rattle.esa_vault.specs.Placed.{IsSpelled}
@@ -24,23 +26,31 @@ use Rattle.esa_floor.specs.Keeping.{HasInput}
 use Rattle.esa_floor.specs.Marks.{roots_of}
 use Rattle.esa_floor.specs.Parts.{Parts}
 use Rattle.esa_floor.specs.Private.{envelope_at}
-use Rattle.esa_floor.specs.Written.{AreItems, EachTookItsBlock, IsOfInput}
+use Rattle.esa_floor.specs.Written.{AreItems, EachGaveItsBlock, EachTookItsBlock, GaveItsBlock, GaveItsOwn, WritesInput}
 use Rattle.esa_floor.specs.declared.floor.Roots.{Roots}
 use Rattle.esa_floor.specs.declared.turn.Outcome.{Outcome}
 use Rattle.esa_floor.specs.declared.turn.Outcome.TheVariants as outcome
+use Rattle.esa_floor.proofs.Giving.{gave-input, gave-write, input_written}
 use Rattle.esa_floor.proofs.Writing.{took-input}
-use Rattle.esa_shuffle.specs.Loading.{IsOfLoad, TakesInput}
-use Rattle.esa_shuffle.specs.Records.{IsShuffledFrom, WritesOf, record_at}
+use Rattle.esa_shuffle.specs.Loading.{IsOfLoad, TakesBatch, TakesInput}
+use Rattle.esa_shuffle.specs.Records.{IsShuffledFrom, IsWrittenFrom, ReadsOf, WritesOf, record_at}
 use Rattle.esa_shuffle.proofs.Contents.{faithful_before}
+use Rattle.esa_shuffle.proofs.Giving.{all_gave, any_read}
+use Rattle.esa_shuffle.proofs.Inputs.{written_by, written_on}
 use Rattle.esa_shuffle.proofs.Taken.{all_took, took_none}
 
 -- a load that ended the run put no records out, and what it wrote is the input
 pub not_shuffled : (p : Sizes) (ds : ℕ → Draw) (hs : List (List ℕ)) (outer run : Keys) (history : List ℕ) (log : List Carried) (o : Outcome) (given : List ℕ) → IsOfLoad o
-    → All (IsOfInput p) log → WritesOf o log → IsShuffledFrom p ds hs outer run history log o given
-not_shuffled p ds hs outer run history log o given of_load all failed = record {
+    → All (WritesInput p) log → WritesOf o log → IsWrittenFrom p run given log → IsShuffledFrom p ds hs outer run history log o given
+not_shuffled p ds hs outer run history log o given of_load all failed written = record {
   output = λ a same faithful. absurd (subst IsOfLoad same of_load);
-  took = λ faithful. took_none p run ds (record_at p outer given) (turns_in (lists p.workers history)) log all;
+  took = λ faithful. took_none p run ds (record_at p outer given) (turns_in (lists p.workers history)) log (input_written p log all);
   failed = failed;
+  written = written;
+  gave =
+      let turns = turns_in (lists p.workers history) in
+      any_read (GaveItsBlock p run ds turns) o log
+      (All-weaker (WritesInput p) (GaveItsBlock p run ds turns) (λ entry writes. gave-write p run ds turns entry writes.writes) log all);
 }
 
 -- the envelope of a place, where bytes were given for it
@@ -101,14 +111,24 @@ module _ {V : Type 0} (p : Sizes) (ds : ℕ → Draw) (hs : List (List ℕ)) (ou
         → AreOutputsStored p x.run (ds a) (turns_in hs a) a record_of p.b f.recorder.log)
         → ((record_of : ℕ → Item) → IsFaithful p f.recorder.log → HasInput x record_of → HasInput f record_of)
         → ((record_of : ℕ → Item) → AreItems (item_length p.form) record_of → EachTookItsBlock ds record_of x → EachTookItsBlock ds record_of f)
-        → All (IsOfInput x.plan) x.recorder.log → WritesOf o f.recorder.log
+        → All (WritesInput x.plan) x.recorder.log → WritesOf o f.recorder.log
+        → (EachGaveItsBlock ds x → ReadsOf (GaveItsOwn ds f) o f.recorder.log) → IsWrittenFrom p run given f.recorder.log
         → IsShuffledFrom p ds hs outer run (f.history ++ p.workers ∷ []) f.recorder.log o given
-    shuffled_from outputs stays takes all failed = record {
+    shuffled_from outputs stays takes all failed gives written = record {
       output = λ a same faithful.
           subst (λ (k : Keys). AreOutputsStored p k (ds a) (turns_in hs a) a (record_at p outer given) p.b f.recorder.log) run_is
           (outputs (record_at p outer given) a items faithful (has_input faithful) same);
       took = λ faithful.
           all_took ds (record_at p outer given) f o p run (ap (λ (r : Roots). r.plan) origin ∙ plan) (ap (λ (r : Roots). r.run) origin ∙ run_is)
-          (takes (record_at p outer given) items (took-input ds (record_at p outer given) x all)) (stays (record_at p outer given) faithful (has_input faithful));
+          (takes (record_at p outer given) items (took-input ds (record_at p outer given) x (input_written x.plan x.recorder.log all))) (stays (record_at p outer given) faithful (has_input faithful));
       failed = failed;
+      written = written;
+      gave = all_gave ds f o p run (ap (λ (r : Roots). r.plan) origin ∙ plan) (ap (λ (r : Roots). r.run) origin ∙ run_is) (gives (gave-input ds x all));
     }
+
+    -- the input was written in the load
+    pub written_from : (old : Parts V) (done : Unit {0}) → TakesBatch old x (Ok done) given → old.recorder.log ≡ [] → map (λ (entry : Carried). entry.access) f.recorder.log ≡ f.recorder.trace
+        → Begins f.recorder.trace (trace p ds hs) → IsWrittenFrom p run given f.recorder.log
+    written_from old done takes none are front =
+        written_on p run given ds hs x.recorder.log f.recorder.log f.recorder.trace on (takes.whole none ∙ ap (λ (q : Sizes). q.b) plan) are front
+        (written_by x.plan p x.run run given x.recorder.log plan run_is (takes.written none))

@@ -1,18 +1,21 @@
 -- The attempts of a run, one after another: what a floor is before each of them, and how one ends the run or leads on.
-use Rattle.std.proofs.Common.{◌≡◌, ℕ, zero, suc, ◌+◌, ◌-◌, ◌<◌, ◌≤◌, Bool, true, false, cond, List, [], ◌∷◌, ◌++◌, length, map, take, None, Ok, Err, refl, sym, ap, ap₂, ◌∙◌, subst, arith, add-one, length-append, length-take}
-use Rattle.std.specs.Prelude.{All}
+use Rattle.std.proofs.Common.{◌≡◌, inl, inr, ℕ, zero, suc, ◌+◌, ◌-◌, ◌<◌, ◌≤◌, Bool, true, false, cond, List, [], ◌∷◌, ◌++◌, length, map, take, None, Ok, Err, refl, sym, ap, ap₂, ◌∙◌, subst, arith, add-one, length-append, length-take}
+use Rattle.std.specs.Prelude.{All, ◌⊎◌}
 use Rattle.std.proofs.lemmas.List.Elements.{All-take}
 use Rattle.std.proofs.lemmas.List.FromFn.{get_or-map-range_with_len}
 use Rattle.esa_laws.proofs.HistoryLaws.{lists-first}
 use Rattle.esa_laws.proofs.Ranges.{map-below-suc, sum-below-suc}
 use Rattle.esa_params.specs.Sizes.{Sizes, below}
 use Rattle.esa_spec.specs.Completion.{completed, turns_needed}
+use Rattle.esa_params.specs.declared.slot.Access.{Access}
 use Rattle.esa_spec.specs.Draws.{Draw}
+use Rattle.esa_spec.specs.Fronts.{EndsWith}
 use Rattle.esa_spec.specs.Histories.{lists}
 use Rattle.esa_spec.specs.Traces.{is_failed}
 use Rattle.esa_spec.specs.Verdicts.{is_good, verdict}
 use Rattle.esa_spec.specs.declared.event.Verdict.{Verdict}
-use Rattle.esa_ending.specs.Seen.{AreCut, history_of, turns_in, verdict_in}
+use Rattle.esa_ending.specs.Seen.{AreCut, EndsWithTurn, NoTurnBehind, history_of, last_begun, turns_in, verdict_in}
+use Rattle.esa_ending.proofs.CutLaws.{none-behind}
 use Rattle.esa_floor.specs.Parts.{Parts, begun_as, ended_as}
 use Rattle.esa_floor.specs.Standing.{Stands, turns_made}
 use Rattle.esa_floor.specs.declared.turn.Outcome.{Outcome}
@@ -21,7 +24,7 @@ use Rattle.esa_vault.specs.declared.fault.VaultFault.{VaultFault}
 use Rattle.esa_vault.specs.declared.fault.VaultFault.TheVariants as fault
 use Rattle.esa_model.specs.Forecast.{handed_in, made, made_in}
 use Rattle.esa_crew.proofs.Finishing.{begins_again, ends_failed, ends_shuffled}
-use Rattle.esa_shuffle.specs.Attempts.{AddsAttempt, AttemptEnd, outcome_of}
+use Rattle.esa_shuffle.specs.Attempts.{AddsAttempt, AttemptEnd, StopsShort, outcome_of}
 use Rattle.esa_shuffle.specs.Runs.{AreStored, IsCounted, MayEnd, entries_before, entries_in, failed_of, lists_ended}
 use Rattle.esa_shuffle.proofs.Storing.{cut-in, first-more, history-more, length-first, length_is, lists_are, take-first, turns_are}
 
@@ -73,6 +76,11 @@ room_for faults p ds turns a f failures room before inside most =
     let more = entries-more p turns a in
     let all = entries-within p turns (a + 1) p.attempts (omega (arith, inside)) in
     omega (arith, so_far, more, all, most)
+
+-- the last of a list
+nth-behind : (xs : List (List ℕ)) (h : List ℕ) → turns_in (xs ++ h ∷ []) (length xs) ≡ h
+nth-behind [] h = refl
+nth-behind (x ∷ xs) h = nth-behind xs h
 
 -- attempt a, which adds these turns to the history
 module _ {V : Type 0} (faults : V → ℕ) (p : Sizes) (ds : ℕ → Draw) (turns : List (List ℕ)) (a : ℕ) (f g : Parts V) (failures : List Verdict)
@@ -129,6 +137,9 @@ module _ {V : Type 0} (faults : V → ℕ) (p : Sizes) (ds : ℕ → Draw) (turn
       verdict_now =
           sym end.2 ∙ ap₂ (λ (q : Sizes) (h : List ℕ). verdict q (ds a) h) same (turns_now ∙ sym turn_lists)
 
+      stored_good : lists_ended p g ≡ take (a + 1) hs
+      stored_good = lists_now ∙ sym (take-first (made_in p ds turns) (a + 1) p.attempts (omega (arith, inside)))
+
       pub ends_good : is_good v ≡ true → (count : ℕ) → MayEnd faults p ds hs count count g failures (outcome.Shuffled a)
       ends_good good count =
           let stands = ends_shuffled faults p ds g a end.0 end.1 (ap is_good end.2 ∙ good) in
@@ -136,7 +147,8 @@ module _ {V : Type 0} (faults : V → ℕ) (p : Sizes) (ds : ℕ → Draw) (turn
             stands = stands;
             room = room_left (outcome.Shuffled a) stands;
             history = history_now ∙ ap (history_of p) (sym lists_now);
-            turns = lists_now ∙ sym (take-first (made_in p ds turns) (a + 1) p.attempts (omega (arith, inside)));
+            turns = stored_good;
+            behind = λ access ends. subst (λ (xs : List (List ℕ)). NoTurnBehind p xs hs access) (sym stored_good) (none-behind p hs (a + 1) access);
             failed = before.failed ∙ ap (λ (n : ℕ). map (verdict_in p ds hs) (below n))
                 (let long = ap length lists_now ∙ length-first (made_in p ds turns) (a + 1) in omega (arith, long));
             batch = refl;
@@ -179,9 +191,29 @@ module _ {V : Type 0} (faults : V → ℕ) (p : Sizes) (ds : ℕ → Draw) (turn
     failures_cut (fault.Device number) n is = before.failed ∙ ap (λ (n : ℕ). map (verdict_in p ds hs) (below n)) (omega (arith, is))
     failures_cut (fault.Tampered number) n is = before.failed ∙ ap (λ (n : ℕ). map (verdict_in p ds hs) (below n)) (omega (arith, is))
 
-    pub ends_cut : (why : VaultFault) → AddsAttempt p here f.history g.history (Err why) → AttemptEnd faults p ds a g (Err why)
+    -- no turn came behind the last access
+    none_behind_cut : (why : VaultFault) (count : ℕ) → g.history ≡ (f.history ++ p.workers ∷ []) ++ take count here → StopsShort p a here g (Err why)
+        → (access : Access) → EndsWith g.recorder.trace access → NoTurnBehind p (lists_ended p g) hs access
+    none_behind_cut why count is short access ends some =
+        let firsts = map (made_in p ds turns) (below a) in
+        let lists = listed count is in
+        let first = length-first (made_in p ds turns) a in
+        let long = ap length lists ∙ length-append firsts (take count here ∷ []) in
+        let at : last_begun (lists_ended p g) ≡ a = omega (arith, long, first) in
+        let made_now : turns_made g ≡ take count here =
+        ap (λ (q : Sizes). turns_made (record g { plan = q })) same ∙ turns_are p.workers f.history (take count here) g.history (all_in count) is in
+        let here_now : turns_in (lists_ended p g) a ≡ turns_made g =
+        ap (λ (xs : List (List ℕ)). turns_in xs a) lists ∙ ap (turns_in (firsts ++ take count here ∷ [])) (sym first) ∙ nth-behind firsts (take count here) ∙ sym made_now in
+        subst (λ (n : ℕ). (turns_in (lists_ended p g) n ≡ turns_in hs n) ⊎ EndsWithTurn p n (turns_in (lists_ended p g) n) access) (sym at)
+        (subst (λ (h : List ℕ). (h ≡ turns_in hs a) ⊎ EndsWithTurn p a h access) (sym here_now)
+        (elim (short access ends) [
+          | inl all ↦ inl (all ∙ sym turn_lists)
+          | inr one ↦ inr one
+        ]))
+
+    pub ends_cut : (why : VaultFault) → AddsAttempt p here f.history g.history (Err why) → StopsShort p a here g (Err why) → AttemptEnd faults p ds a g (Err why)
         → (count : ℕ) → MayEnd faults p ds hs count count g failures (outcome_of why)
-    ends_cut why added stands count =
+    ends_cut why added short stands count =
         let lists = listed added.count added.history in
         record {
           stands = stands;
@@ -189,6 +221,7 @@ module _ {V : Type 0} (faults : V → ℕ) (p : Sizes) (ds : ℕ → Draw) (turn
           history = historied added.count added.history ∙ ap (history_of p) (sym lists);
           turns = stored why (lists_ended p g)
               (subst (λ (xs : List (List ℕ)). AreCut xs hs) (sym lists) (cut-in (made_in p ds turns) a p.attempts added.count inside));
+          behind = none_behind_cut why added.count added.history short;
           failed = failures_cut why (length (lists_ended p g))
               (let long = ap length lists ∙ length-append (map (made_in p ds turns) (below a)) (take added.count here ∷ []) in
               let first = length-first (made_in p ds turns) a in omega (arith, long, first));
@@ -205,6 +238,8 @@ ends_all faults p ds turns a f failures before some last count =
       room = let long = length-append f.history (f.plan.workers ∷ []) in let entries = stands.of.entries in omega (arith, long, entries);
       history = before.history ∙ ap (history_of p) (sym before.lists_are);
       turns = before.lists_are ∙ ap (λ (n : ℕ). map (made_in p ds turns) (below n)) last;
+      behind = λ access ends some_made.
+          inl (ap (λ (xs : List (List ℕ)). turns_in xs (last_begun (lists_ended p f))) (before.lists_are ∙ ap (λ (n : ℕ). map (made_in p ds turns) (below n)) last));
       failed = before.failed ∙ ap (λ (n : ℕ). map (verdict_in p ds (made p ds turns)) (below n))
           (sym (ap length before.lists_are ∙ length-first (made_in p ds turns) a));
       batch = refl;

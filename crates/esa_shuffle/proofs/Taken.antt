@@ -24,7 +24,7 @@ use Rattle.esa_ending.specs.Seen.{turns_in}
 use Rattle.esa_floor.specs.Keeping.{AreChunksStored, HasInput, IsInput, QueuesHold, SlotsHold}
 use Rattle.esa_floor.specs.Parts.{Parts, ended_as}
 use Rattle.esa_floor.specs.Standing.{attempt_begun, turns_made}
-use Rattle.esa_floor.specs.Written.{AreItems, EachTookItsBlock, IsOfInput, NoWriteFailed, OnlyLastFailed, TookItsBlock, attempt_turns}
+use Rattle.esa_floor.specs.Written.{AreItems, EachTookItsBlock, IsOfInput, NoWriteFailed, OnlyLastFailed, TookItsBlock, WritesInput, attempt_turns}
 use Rattle.esa_floor.specs.declared.turn.Outcome.{Outcome}
 use Rattle.esa_floor.specs.declared.turn.Outcome.TheVariants as outcome
 use Rattle.esa_floor.proofs.Failing.{Moved, last_may_fail}
@@ -160,15 +160,15 @@ module _ (p : Sizes) (run : Keys) (given : List ℕ) where
   abbrev blocks : ℕ → List Carried
   blocks k = written_blocks p run given k
 
-  pub loaded_input : (k : ℕ) → k ≤ p.b → All (IsOfInput p) (blocks k)
+  pub loaded_input : (k : ℕ) → k ≤ p.b → All (WritesInput p) (blocks k)
   loaded_input k few =
-      All-map (IsOfInput p) (λ j. written_block p run j (bucket_text p given j)) (below k)
-      (All-weaker (λ (j : ℕ). j < k) (λ (j : ℕ). IsOfInput p (written_block p run j (bucket_text p given j)))
-      (λ j j_in. record { region = refl; planned = omega (arith, j_in, few) }) (below k) (All-below k k (omega arith)))
+      All-map (WritesInput p) (λ j. written_block p run j (bucket_text p given j)) (below k)
+      (All-weaker (λ (j : ℕ). j < k) (λ (j : ℕ). WritesInput p (written_block p run j (bucket_text p given j)))
+      (λ j j_in. record { of = record { region = refl; planned = omega (arith, j_in, few) }; writes = refl }) (below k) (All-below k k (omega arith)))
 
-  pub failed_input : (k : ℕ) → k < p.b → All (IsOfInput p) (blocks k ++ failed_block p k ∷ [])
+  pub failed_input : (k : ℕ) → k < p.b → All (WritesInput p) (blocks k ++ failed_block p k ∷ [])
   failed_input k inside =
-      All-push (IsOfInput p) (blocks k) (failed_block p k) (loaded_input k (omega (arith, inside))) (record { region = refl; planned = inside })
+      All-push (WritesInput p) (blocks k) (failed_block p k) (loaded_input k (omega (arith, inside))) (record { of = record { region = refl; planned = inside }; writes = refl })
 
   pub loaded_writes : (k : ℕ) → NoWriteFailed (blocks k)
   loaded_writes k =

@@ -1,28 +1,42 @@
 -- The turns that an attempt takes of its completed list.
-use Rattle.std.proofs.Common.{◌≡◌, ◌≢◌, ℕ, zero, suc, ◌+◌, ◌*◌, ◌<◌, ◌≤◌, Bool, true, false, List, [], ◌∷◌, ◌++◌, length, take, get_or, Option, Some, None, Result, Ok, Err, sym, ap, ◌∙◌, subst, arith, take_all, inl, inr}
-use Rattle.std.specs.Prelude.{All, OnOk, is_some, ◌||◌, ◌==◌}
+use Rattle.std.proofs.Common.{◌≡◌, ◌≢◌, ℕ, zero, suc, ◌+◌, ◌*◌, ◌<◌, ◌≤◌, Bool, true, false, List, [], ◌∷◌, ◌++◌, length, take, get_or, Option, Some, None, Result, Ok, Err, refl, sym, ap, ◌∙◌, subst, arith, take_all, take-take, append_assoc, length-append, inl, inr}
+use Rattle.std.specs.Option.{option_to_list}
+use Rattle.std.specs.Prelude.{All, OnOk, is_some, ◌||◌, ◌==◌, ◌⊎◌}
+use Rattle.std.proofs.lemmas.List.{length-take, take_at}
 use Rattle.std.proofs.lemmas.Bool.{cases_lt}
 use Rattle.std.proofs.lemmas.List.Elements.{All-append, All-head, All-tail, All-take}
 use Rattle.esa_laws.proofs.FinishLaws.{All-below, All-nil, completes, completes-shortest}
+use Rattle.esa_device.specs.Recording.{Recorded}
+use Rattle.esa_ending.specs.Seen.{EndsWithTurn}
+use Rattle.esa_laws.proofs.SpreadLaws.{spread-push}
 use Rattle.esa_laws.proofs.Tests.{equal}
 use Rattle.esa_params.specs.Sizes.{Sizes, below}
+use Rattle.esa_params.specs.Slots.{access_of, at}
+use Rattle.esa_params.specs.declared.slot.Access.{Access}
+use Rattle.esa_params.specs.declared.slot.Op.TheVariants.{Read as Reads}
+use Rattle.esa_params.specs.declared.slot.Region.TheVariants.{Input}
 use Rattle.esa_spec.specs.Completion.{again, completed, full, turns_needed}
 use Rattle.esa_envelope.specs.declared.keys.Keys.{Keys}
 use Rattle.esa_spec.specs.Draws.{Draw, drawn}
-use Rattle.esa_spec.specs.Turns.{order, writes}
+use Rattle.esa_spec.specs.Fronts.{EndsWith}
+use Rattle.esa_spec.specs.Traces.{asked, spread}
+use Rattle.esa_spec.specs.Turns.{event_at, next, order, writes}
 use Rattle.esa_spec.specs.Verdicts.{failing, is_finished}
 use Rattle.esa_spec.specs.declared.event.Verdict.{Verdict}
 use Rattle.esa_vault.specs.declared.fault.VaultFault.{VaultFault}
 use Rattle.esa_floor.specs.Marks.{roots_of}
 use Rattle.esa_floor.specs.Parts.{Parts, begun_as}
-use Rattle.esa_floor.specs.Standing.{Stands, attempt_begun, turns_made}
+use Rattle.esa_floor.specs.Keeping.{StopsAfter}
+use Rattle.esa_floor.specs.Standing.{Stands, StopsAt, attempt_begun, turns_made}
+use Rattle.esa_floor.specs.declared.turn.Stop.{Stop}
+use Rattle.esa_floor.specs.declared.turn.Stop.TheVariants as stop
 use Rattle.esa_floor.specs.declared.floor.Roots.{Roots}
 use Rattle.esa_floor.specs.Working.{Working}
 use Rattle.esa_crew.specs.Posts.{AreMembers, ArePosts, IsMember, IsNewWorker}
 use Rattle.esa_crew.specs.Replays.{IsReplayed, IsUnbroken}
 use Rattle.esa_floor.proofs.Resting.{working}
 use Rattle.esa_floor.proofs.Turning.{spread_is}
-use Rattle.esa_shuffle.specs.Attempts.{AddsAttempt, AttemptEnd}
+use Rattle.esa_shuffle.specs.Attempts.{AddsAttempt, AttemptEnd, EndsByStop, StopsShort}
 use Rattle.esa_shuffle.proofs.Storing.{turns_are}
 
 All-again : (w n : ℕ) → All (λ v. v < w) (again n (below w))
@@ -38,6 +52,18 @@ All-full p d turns all =
 either : (x y : Bool) → x ≡ false → (x || y) ≡ true → y ≡ true
 either false y e h = h
 either true y e h = absurd (cc)
+
+-- an attempt that isn't finished has not failed
+none_failed : (found : Option ℕ) (all : Bool) → (is_some found || all) ≡ false → found ≡ None
+none_failed None all off = refl
+none_failed (Some k) all off = absurd (cc off)
+
+-- the last entries of the same list are the same
+last_same : (xs ys : List Access) (x y : Access) → xs ++ x ∷ [] ≡ ys ++ y ∷ [] → x ≡ y
+last_same [] [] x y is = cc is
+last_same [] (v ∷ ys) x y is = absurd (let long = ap length is in let more = length-append ys (y ∷ []) in omega (arith, long, more))
+last_same (u ∷ xs) [] x y is = absurd (let long = ap length is in let more = length-append xs (x ∷ []) in omega (arith, long, more))
+last_same (u ∷ xs) (v ∷ ys) x y is = let rest : xs ++ x ∷ [] ≡ ys ++ y ∷ [] = cc is in last_same xs ys x y rest
 
 contrary : (x : Bool) → x ≡ true → x ≡ false → ⊥
 contrary x t f = cc
@@ -100,6 +126,66 @@ module _ {V : Type 0} (faults : V → ℕ) (p : Sizes) (ds : ℕ → Draw) (f be
         (either (is_some (failing new.plan (ds n) (order new.plan.b (turns_made new)))) (writes new.plan.b (turns_made new) == new.plan.b * new.plan.b)
         (ap (λ (o : Option ℕ). is_some o) spread.runs) finished)
 
+    -- the turn at which they stopped made the last access
+    module _ (before : List ℕ) (after : StopsAfter faults ds before new) where
+      stop_turns : taken ≡ before ++ after.failed ∷ []
+      stop_turns = sym taken_turns ∙ after.turns
+
+      one_more : length taken ≡ length before + 1
+      one_more = let long = length-append before (after.failed ∷ []) in let same = ap length stop_turns in omega (arith, long, same)
+
+      fewer : length before < length whole
+      fewer = let long = one_more in let some_of = length-take replayed_on.count whole in omega (arith, long, some_of)
+
+      in_count : length before ≤ replayed_on.count
+      in_count = let long = one_more in let some_of = length-take replayed_on.count whole in omega (arith, long, some_of)
+
+      before_is : take (length before) whole ≡ before
+      before_is =
+          sym (take-take (length before) replayed_on.count whole in_count) ∙ ap (take (length before)) stop_turns
+          ∙ take_at before (after.failed ∷ []) (length before) refl
+
+      runs_before : failing f.plan (ds a) (order f.plan.b before) ≡ None
+      runs_before =
+          none_failed (failing f.plan (ds a) (order f.plan.b before)) (writes f.plan.b before == f.plan.b * f.plan.b)
+          (ap (is_finished f.plan (ds a)) (sym before_is) ∙ completes-shortest f.plan (ds a) turns some numbers (length before) fewer)
+
+      made_last : (made access : Access) → asked f.plan a (next f.plan.b before after.failed) ≡ Some made → EndsWith new.recorder.trace access
+          → EndsWithTurn f.plan a (turns_made new) access
+      made_last made access asks ends =
+          let turn = spread-push f.plan (ds a) a before after.failed runs_before in
+          let trace : new.recorder.trace ≡ (begun.recorder.trace ++ spread f.plan (ds a) a before) ++ made ∷ [] =
+          replayed_on.trace ∙ ap (λ (h : List ℕ). begun.recorder.trace ++ spread f.plan (ds a) a h) stop_turns
+          ∙ ap (λ (t : List Access). begun.recorder.trace ++ t) (turn ∙ ap (λ (o : Option Access). spread f.plan (ds a) a before ++ option_to_list o) asks)
+          ∙ sym (append_assoc begun.recorder.trace (spread f.plan (ds a) a before) (made ∷ [])) in
+          record {
+            before = before;
+            worker = after.failed;
+            turns = after.turns;
+            made = asks ∙ ap Some (last_same (begun.recorder.trace ++ spread f.plan (ds a) a before) ends.0 made access (sym trace ∙ ends.1));
+          }
+
+      event_is : event_at new.plan.b (turns_made new) (length before) ≡ next f.plan.b before after.failed
+      event_is =
+          ap (λ (q : Sizes). event_at q.b (turns_made new) (length before)) plan_is ∙ ap (λ (h : List ℕ). event_at f.plan.b h (length before)) after.turns
+
+      asks_is : asked new.plan (attempt_begun new) (event_at new.plan.b (turns_made new) (length before)) ≡ asked f.plan a (next f.plan.b before after.failed)
+      asks_is =
+          ap (λ (q : Sizes). asked q (attempt_begun new) (event_at new.plan.b (turns_made new) (length before))) plan_is
+          ∙ ap (λ (n : ℕ). asked f.plan n (event_at new.plan.b (turns_made new) (length before))) (number_of new stands new_at)
+          ∙ ap (asked f.plan a) event_is
+
+      broke : (number : ℕ) → (new.stop ≡ Some (stop.DeviceFault number)) ⊎ (new.stop ≡ Some (stop.Tampered number)) → (access : Access) → EndsWith new.recorder.trace access
+          → EndsWithTurn f.plan a (turns_made new) access
+      broke number stopped access ends = elim stopped [
+        | inl failed ↦
+            let why = subst (λ (s : Option Stop). StopsAt faults (ds (attempt_begun new)) (attempt_begun new) new (length before) s) failed after.stops in
+            made_last why.1.0 access (sym asks_is ∙ why.1.1) ends
+        | inr closed ↦
+            let why = subst (λ (s : Option Stop). StopsAt faults (ds (attempt_begun new)) (attempt_begun new) new (length before) s) closed after.stops in
+            made_last (access_of f.plan a Reads (at Input number)) access (ap (asked f.plan a) (sym event_is ∙ why.1)) ends
+      ]
+
     -- where it is over, all turns were taken
     module _ (last : Parts V) (last_plan : last.plan ≡ new.plan) (last_history : last.history ≡ new.history) where
       last_turns : turns_made last ≡ taken
@@ -124,6 +210,29 @@ module _ {V : Type 0} (faults : V → ℕ) (p : Sizes) (ds : ℕ → Draw) (f be
         history = last_history ∙ taken_history;
         whole = all_taken result end;
       }
+
+      -- and where an access cut it they are all, or the last one made that access
+      pub stops_short : (result : Result Verdict VaultFault) → EndsByStop new.stop result → (new.stop ≢ None → last.recorder ≡ new.recorder)
+          → (new.stop ≢ None → (before : List ℕ) × StopsAfter faults ds before new) → StopsShort f.plan a whole last result
+      stops_short (Ok v) stopped still stops = tt
+      stops_short (Err fault) stopped still stops = λ access ends. by new.stop refl stopped access ends
+        where
+          same_turns : turns_made new ≡ turns_made last
+          same_turns = taken_turns ∙ sym last_turns
+
+          stops_with : (number : ℕ) → new.stop ≢ None → (new.stop ≡ Some (stop.DeviceFault number)) ⊎ (new.stop ≡ Some (stop.Tampered number)) → (access : Access)
+              → EndsWith last.recorder.trace access → EndsWithTurn f.plan a (turns_made last) access
+          stops_with number there why access ends =
+              let at = stops there in
+              subst (λ (h : List ℕ). EndsWithTurn f.plan a h access) same_turns
+              (broke at.0 at.1 number why access (subst (λ (r : Recorded V). EndsWith r.trace access) (still there) ends))
+
+          by : (s : Option Stop) → new.stop ≡ s → EndsByStop s (Err fault) → (access : Access) → EndsWith last.recorder.trace access
+              → (turns_made last ≡ whole) ⊎ EndsWithTurn f.plan a (turns_made last) access
+          by None is end access ends = let long = replayed_on.whole (subst IsUnbroken (sym is) tt) in inl (last_turns ∙ take_all replayed_on.count whole (omega (arith, long)))
+          by (Some (stop.StashOverflow j)) is end access ends = absurd (cc end)
+          by (Some (stop.DeviceFault number)) is end access ends = inr (stops_with number (λ none. cc (sym is ∙ none)) (inl is) access ends)
+          by (Some (stop.Tampered number)) is end access ends = inr (stops_with number (λ none. cc (sym is ∙ none)) (inr is) access ends)
 
 -- who stands at a post is a member, whatever was made of recorder and stash
 pub members_on : {V C : Type 0} (ds : ℕ → Draw) (target_lists : C → ℕ → ℕ → List ℕ) (f g : Parts V) (workers : List (Working C))

@@ -1,8 +1,11 @@
 -- How an attempt of a run ends, and what it adds to the history.
-use Rattle.std.specs.Prelude.{◌≡◌, ℕ, List, [], ◌∷◌, ◌++◌, take, true, Option, Some, None, Result, Ok, Err, OnOk}
+use Rattle.std.specs.Prelude.{◌≡◌, ◌⊎◌, ℕ, List, [], ◌∷◌, ◌++◌, take, true, Option, Some, None, Result, Ok, Err, OnOk}
 use Rattle.esa_device.specs.Logs.{Carried}
 use Rattle.esa_params.specs.Sizes.{Sizes}
+use Rattle.esa_params.specs.declared.slot.Access.{Access}
+use Rattle.esa_ending.specs.Seen.{EndsWithTurn}
 use Rattle.esa_spec.specs.Draws.{Draw}
+use Rattle.esa_spec.specs.Fronts.{EndsWith}
 use Rattle.esa_spec.specs.Verdicts.{is_finished, verdict}
 use Rattle.esa_spec.specs.declared.event.Verdict.{Verdict}
 use Rattle.esa_spec.specs.declared.event.Verdict.TheVariants as verdicts
@@ -53,3 +56,9 @@ pub record AddsAttempt (p : Sizes) (h old new : List ℕ) (result : Result Verdi
   pub count : ℕ
   pub history : new ≡ (old ++ p.workers ∷ []) ++ take count h
   pub whole : OnOk result (take count h ≡ h)
+
+-- where an access cut attempt a, all of its turns h were made, or the last one that was made made the last access
+abbrev pub StopsShort : {V : Type 0} → Sizes → ℕ → List ℕ → Parts V → Result Verdict VaultFault → Type 0
+StopsShort p a h f (Ok v) = Unit {0}
+StopsShort p a h f (Err fault) =
+    (access : Access) → EndsWith f.recorder.trace access → (turns_made f ≡ h) ⊎ EndsWithTurn p a (turns_made f) access

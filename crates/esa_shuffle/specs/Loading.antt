@@ -1,5 +1,5 @@
 -- The load of a run: a floor on which nothing was done, and how the load ends.
-use Rattle.std.specs.Prelude.{◌≡◌, ℕ, ◌*◌, ◌<◌, ◌≤◌, ◌++◌, List, [], flat_map, length, take, Option, Some, None, Result, Ok, Err}
+use Rattle.std.specs.Prelude.{◌≡◌, ℕ, ◌*◌, ◌<◌, ◌≤◌, ◌++◌, List, [], flat_map, length, take, Option, Some, None, Result, Ok, Err, OnOk}
 use Rattle.std.specs.List.{concat}
 use Rattle.esa_device.specs.Logs.{Carried, IsFaithful}
 use Rattle.esa_load.specs.Loads.{bucket_text}
@@ -14,7 +14,7 @@ use Rattle.esa_floor.specs.Standing.{Stands}
 use Rattle.esa_floor.specs.Written.{NoWriteFailed}
 use Rattle.esa_floor.specs.declared.turn.Outcome.{Outcome}
 use Rattle.esa_floor.specs.declared.turn.Outcome.TheVariants as outcome
-use Rattle.esa_shuffle.specs.Records.{WritesOf, record_at}
+use Rattle.esa_shuffle.specs.Records.{IsWrittenFrom, WritesOf, inputs_written, record_at}
 use Rattle.esa_shuffle.specs.Runs.{IsCounted}
 
 -- a floor on which nothing was done, with room for an entry more
@@ -76,3 +76,10 @@ WritesLoaded (Err o) log = WritesOf o log
 -- a floor has what a batch gave as its input, where its log is faithful
 abbrev pub TakesInput : {V : Type 0} → Parts V → List ℕ → Type 0
 TakesInput f given = IsFaithful f.plan f.recorder.log → HasInput f (record_at f.plan f.outer given)
+
+-- what a load made of the bytes that a batch gave, on a floor with no log: the input was written from them. Where all of it was
+-- written, the floor has them as its input
+pub record TakesBatch {V T : Type 0} (old now : Parts V) (result : Result T Outcome) (given : List ℕ) : Type 0 where
+  pub written : old.recorder.log ≡ [] → IsWrittenFrom now.plan now.run given now.recorder.log
+  pub whole : old.recorder.log ≡ [] → OnOk result (inputs_written now.recorder.log ≡ now.plan.b)
+  pub input : OnOk result (TakesInput now given)

@@ -9,12 +9,13 @@ use Rattle.esa_params.specs.declared.slot.Access.{Access}
 use Rattle.esa_params.specs.declared.slot.Slot.{Slot}
 use Rattle.esa_spec.specs.Completion.{completed}
 use Rattle.esa_spec.specs.Draws.{Draw}
+use Rattle.esa_spec.specs.Fronts.{EndsWith}
 use Rattle.esa_spec.specs.Histories.{lists}
 use Rattle.esa_spec.specs.Traces.{good_attempt, shuffle_trace, writes_in, written_nonces}
 use Rattle.esa_spec.specs.declared.event.Verdict.{Verdict}
 use Rattle.esa_vault.specs.Seals.{opens}
 use Rattle.esa_ending.specs.Endings.{BatchFails, BlockIsTampered, DeviceFails, Overflows}
-use Rattle.esa_ending.specs.Seen.{AreCut, HasHistory, IsCalm, Seen, history_of, stored, verdict_in}
+use Rattle.esa_ending.specs.Seen.{AreCut, HasHistory, IsCalm, NoTurnBehind, Seen, history_of, stored, verdict_in}
 use Rattle.esa_floor.specs.Parts.{Parts, ended_as}
 use Rattle.esa_floor.specs.Standing.{Stands}
 use Rattle.esa_floor.specs.declared.turn.Outcome.{Outcome}
@@ -112,5 +113,6 @@ pub record MayEnd {V : Type 0} (faults : V → ℕ) (p : Sizes) (ds : ℕ → Dr
   pub room : length f.history < f.room
   pub history : f.history ++ p.workers ∷ [] ≡ history_of p (lists_ended p f)
   pub turns : AreStored (lists_ended p f) hs o
+  pub behind : (access : Access) → EndsWith f.recorder.trace access → NoTurnBehind p (lists_ended p f) hs access
   pub failed : failures ≡ map (verdict_in p ds hs) (below (failed_of o (length (lists_ended p f))))
   pub batch : IsCounted p.b (length f.recorder.trace) before now o

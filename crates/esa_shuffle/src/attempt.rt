@@ -7,13 +7,13 @@ ghost use Rattle.esa_floor.specs.Keeping.{HasInput};
 ghost use Rattle.esa_floor.specs.Marks.{roots_of};
 ghost use Rattle.esa_floor.specs.Parts.{begun_as};
 ghost use Rattle.esa_floor.specs.Standing.{Stands};
-ghost use Rattle.esa_floor.specs.Written.{AreItems, EachTookItsBlock, NoWriteFailed};
+ghost use Rattle.esa_floor.specs.Written.{AreItems, EachGaveItsBlock, EachTookItsBlock, EachUntil, GaveItsOwn, NoWriteFailed};
 ghost use Rattle.esa_params.specs.Slots.{item_length};
 ghost use Rattle.esa_press.specs.Contents.{AreOrders, AreOutputsStored};
 ghost use Rattle.esa_report.specs.declared.item.Item.{Item};
 ghost use Rattle.esa_spec.specs.Completion.{completed, full};
 ghost use Rattle.esa_spec.specs.Fronts.{Begins};
-ghost use Rattle.esa_shuffle.specs.Attempts.{AddsAttempt, AttemptEnd, WritesEnd};
+ghost use Rattle.esa_shuffle.specs.Attempts.{AddsAttempt, AttemptEnd, StopsShort, WritesEnd};
 
 use crate::rest::finish;
 use esa_crew::{begin, replay};
@@ -54,6 +54,7 @@ pub(crate) fn make_attempt<V: Device, G: Told, C: Coins>(
     requires orders { AreOrders floor.old.plan (G.draws attempt) (C.order_list coins.now attempt) }
     ensures ends { AttemptEnd V.faults G.plan G.draws attempt floor.new result }
     ensures history { AddsAttempt floor.old.plan (full floor.old.plan (G.draws attempt) turns.now) floor.old.history floor.new.history result }
+    ensures behind { StopsShort floor.old.plan attempt (full floor.old.plan (G.draws attempt) turns.now) floor.new result }
     ensures log { Begins floor.old.recorder.log floor.new.recorder.log }
     ensures input { (record_of : ℕ → Item) → IsFaithful floor.old.plan floor.new.recorder.log → HasInput floor.old record_of → HasInput floor.new record_of }
 
@@ -64,6 +65,7 @@ pub(crate) fn make_attempt<V: Device, G: Told, C: Coins>(
     ensures took { (record_of : ℕ → Item) → AreItems (item_length floor.old.plan.form) record_of
         → EachTookItsBlock G.draws record_of floor.old → EachTookItsBlock G.draws record_of floor.new }
     ensures writes { NoWriteFailed floor.old.recorder.log → WritesEnd result floor.new.recorder.log }
+    ensures reads { EachGaveItsBlock G.draws floor.old → EachUntil (GaveItsOwn G.draws floor.new) result floor.new.recorder.log }
     ensures origin { roots_of floor.new ≡ roots_of floor.old }
     ensures outcome { floor.new.outcome ≡ None }
     ensures members { AreMembers G.draws C.target_list floor.new workers.new }

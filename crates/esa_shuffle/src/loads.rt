@@ -1,9 +1,9 @@
 //! The load of a run.
 
-ghost use Rattle.std.specs.Prelude.{◌≡◌, All, IsOk, OnOk, []};
-ghost use Rattle.esa_floor.specs.Written.{IsOfInput};
+ghost use Rattle.std.specs.Prelude.{◌≡◌, All, IsOk, []};
+ghost use Rattle.esa_floor.specs.Written.{WritesInput};
 ghost use Rattle.esa_params.specs.Form.{envelope_length};
-ghost use Rattle.esa_shuffle.specs.Loading.{EndsLoad, HasGiven, IsUnbegun, TakesInput, WritesLoaded};
+ghost use Rattle.esa_shuffle.specs.Loading.{EndsLoad, HasGiven, IsUnbegun, TakesBatch, WritesLoaded};
 
 use esa_crew::loaded_floors_begin;
 use esa_device::Device;
@@ -24,8 +24,8 @@ pub fn load<V: Device, G: Told, R: Records>(
     requires size { R.size batch.old ≡ envelope_length floor.old.plan.form }
     ensures ends { EndsLoad V.faults G.plan G.draws floor.new (R.faults batch.old) (R.faults batch.new) result }
     ensures given { HasGiven floor.old.plan (R.told batch.old) (R.part (R.grounds batch.old)) (R.heard batch.old) (R.heard batch.new) (IsOk result)
-        (λ bytes. OnOk result (TakesInput floor.new bytes)) }
-    ensures input { floor.old.recorder.log ≡ [] → All (IsOfInput floor.new.plan) floor.new.recorder.log }
+        (TakesBatch floor.old floor.new result) }
+    ensures input { floor.old.recorder.log ≡ [] → All (WritesInput floor.new.plan) floor.new.recorder.log }
     ensures writes { floor.old.recorder.log ≡ [] → WritesLoaded result floor.new.recorder.log }
     ensures floor { floor.new ≡ record floor.old { recorder = floor.new.recorder } }
     ensures told { R.told batch.new ≡ R.told batch.old }

@@ -1,10 +1,10 @@
 //! What comes after the turns of an attempt: the drain and the compression.
 
-ghost use Rattle.std.specs.Prelude.{◌≡◌, ℕ, ◌*◌, ◌<◌, None, Ok, Some, length};
+ghost use Rattle.std.specs.Prelude.{◌≡◌, ◌≢◌, ℕ, ◌*◌, ◌<◌, None, Ok, Some, length};
 ghost use Rattle.esa_device.specs.Logs.{IsFaithful};
 ghost use Rattle.esa_floor.specs.Keeping.{HasInput, QueuesHold, SlotsHold};
 ghost use Rattle.esa_floor.specs.Standing.{Stands, turns_made};
-ghost use Rattle.esa_floor.specs.Written.{AreItems, EachTookItsBlock, NoWriteFailed, WritesFailed};
+ghost use Rattle.esa_floor.specs.Written.{AreItems, EachGaveItsBlock, EachTookItsBlock, EachUntil, GaveItsOwn, NoWriteFailed, ReadsGaveTheirBlocks, WritesFailed};
 ghost use Rattle.esa_params.specs.Slots.{item_length};
 ghost use Rattle.esa_press.specs.Contents.{AreOrders, AreOutputsStored};
 ghost use Rattle.esa_press.specs.Over.{IsDistributed};
@@ -53,6 +53,7 @@ fn press_on<V: Device, G: Told, C: Coins>(
     ensures took { (record_of : ℕ → Item) → AreItems (item_length floor.old.plan.form) record_of → QueuesHold G.draws floor.old → SlotsHold G.draws floor.old
         → EachTookItsBlock G.draws record_of floor.old → EachTookItsBlock G.draws record_of floor.new }
     ensures writes { NoWriteFailed floor.old.recorder.log → WritesEnd result floor.new.recorder.log }
+    ensures reads { EachGaveItsBlock G.draws floor.old → EachUntil (GaveItsOwn G.draws floor.new) result floor.new.recorder.log }
     ensures plan { press.new.plan ≡ press.old.plan }
     ensures run { press.new.run ≡ press.old.run }
 {
@@ -94,7 +95,9 @@ pub fn finish<V: Device, G: Told, C: Coins>(
     ensures took { (record_of : ℕ → Item) → AreItems (item_length floor.old.plan.form) record_of → QueuesHold G.draws floor.old → SlotsHold G.draws floor.old
         → EachTookItsBlock G.draws record_of floor.old → EachTookItsBlock G.draws record_of floor.new }
     ensures writes { WritesFailed floor.old.stop floor.old.recorder.log → WritesEnd result floor.new.recorder.log }
+    ensures reads { ReadsGaveTheirBlocks G.draws floor.old → EachUntil (GaveItsOwn G.draws floor.new) result floor.new.recorder.log }
     ensures stopped { EndsByStop floor.old.stop result }
+    ensures still { floor.old.stop ≢ None → floor.new ≡ floor.old }
     ensures plan { press.new.plan ≡ press.old.plan }
     ensures run { press.new.run ≡ press.old.run }
 {

@@ -8,7 +8,7 @@ ghost use Rattle.esa_floor.specs.Keeping.{HasInput};
 ghost use Rattle.esa_floor.specs.Marks.{roots_of};
 ghost use Rattle.esa_floor.specs.Parts.{begun_as};
 ghost use Rattle.esa_floor.specs.Standing.{Stands};
-ghost use Rattle.esa_floor.specs.Written.{AreItems, EachTookItsBlock, NoWriteFailed};
+ghost use Rattle.esa_floor.specs.Written.{AreItems, EachGaveItsBlock, EachTookItsBlock, GaveItsOwn, NoWriteFailed};
 ghost use Rattle.esa_model.specs.Forecast.{made};
 ghost use Rattle.esa_model.specs.Turns.{AreWorkers};
 ghost use Rattle.esa_params.specs.Form.{envelope_length};
@@ -21,7 +21,7 @@ ghost use Rattle.esa_spec.specs.Fronts.{Begins};
 ghost use Rattle.esa_spec.specs.Verdicts as verdicts;
 ghost use Rattle.esa_shuffle.specs.Attempts.{outcome_of};
 ghost use Rattle.esa_shuffle.specs.Loading.{HasGiven, IsNewFloor};
-ghost use Rattle.esa_shuffle.specs.Records.{IsShuffledFrom, WritesOf};
+ghost use Rattle.esa_shuffle.specs.Records.{IsShuffledFrom, ReadsOf, WritesOf};
 ghost use Rattle.esa_shuffle.specs.Runs.{EndsRun, MayEnd, entries_before, opens_last, seen_of};
 
 use crate::attempt::make_attempt;
@@ -105,6 +105,9 @@ fn make_attempts<V: Device, G: Told, C: Coins>(
     ensures took { (record_of : ℕ → Item) → AreItems (item_length G.plan.form) record_of
         → EachTookItsBlock G.draws record_of floor.old → EachTookItsBlock G.draws record_of floor.new }
     ensures writes { NoWriteFailed floor.old.recorder.log → WritesOf result floor.new.recorder.log }
+
+    // So each read gave its block, for every device.
+    ensures reads { EachGaveItsBlock G.draws floor.old → ReadsOf (GaveItsOwn G.draws floor.new) result floor.new.recorder.log }
     ensures origin { roots_of floor.new ≡ roots_of floor.old }
 {
     for attempt in 0..floor.plan().attempts() {
@@ -155,14 +158,18 @@ fn load_and_run<V: Device, G: Told, C: Coins, R: Records>(
     ensures size { R.size batch.new ≡ R.size batch.old }
 {
     match load(floor, &mut tools.loader, batch) {
-        Ok(()) => make_attempts(
-            floor,
-            &mut tools.workers,
-            &mut tools.press,
-            failures,
-            coins,
-            turns,
-        ),
+        Ok(()) => {
+            let outcome = make_attempts(
+                floor,
+                &mut tools.workers,
+                &mut tools.press,
+                failures,
+                coins,
+                turns,
+            );
+            floor.keeps_its_log();
+            outcome
+        }
         Err(outcome) => outcome,
     }
 }

@@ -6,7 +6,7 @@ ghost use Rattle.esa_floor.specs.Keeping.{HasInput};
 ghost use Rattle.esa_floor.specs.Parts.{begun_as};
 ghost use Rattle.esa_floor.specs.Standing.{Stands, turns_made};
 ghost use Rattle.esa_floor.specs.Trails.{IsKept};
-ghost use Rattle.esa_floor.specs.Written.{AreItems, EachTookItsBlock, NoWriteFailed};
+ghost use Rattle.esa_floor.specs.Written.{AreItems, EachGaveItsBlock, EachTookItsBlock, NoWriteFailed};
 ghost use Rattle.esa_params.specs.Slots.{item_length};
 ghost use Rattle.esa_report.specs.declared.item.Item.{Item};
 ghost use Rattle.esa_spec.specs.Fronts.{Begins};
@@ -47,6 +47,7 @@ pub fn distribute<
     requires some { 1 ≤ G.plan.workers }
     requires took { (record_of : ℕ → Item) → AreItems (item_length G.plan.form) record_of → EachTookItsBlock G.draws record_of held.value }
     requires writes { NoWriteFailed held.value.recorder.log }
+    requires reads { EachGaveItsBlock G.draws held.value }
     requires floor { HasFloor G.plan turnstile.now owner.old held.value }
     requires tickets { 2 ≤ left_of owner.old }
     requires passes { passes_of turnstile.now ≡ G.plan.workers + 1 }

@@ -2,7 +2,8 @@
 use Rattle.std.proofs.Common.{◌<◌, length, length-set, sym, ◌∙◌, subst, arith}
 use Rattle.esa_floor.specs.Keeping.{QueuesHold, SlotsHold}
 use Rattle.esa_floor.specs.Parts.{Parts}
-use Rattle.esa_floor.specs.Written.{EachTookItsBlock}
+use Rattle.esa_floor.specs.Written.{EachGaveItsBlock, EachTookItsBlock}
+use Rattle.esa_floor.proofs.Giving.{gave-begun}
 use Rattle.esa_floor.proofs.Queueing.{queues_begun}
 use Rattle.esa_floor.proofs.Storing.{slots_begun}
 use Rattle.esa_floor.proofs.Writing.{took-begun}
@@ -49,3 +50,8 @@ pub returns-clause-took : goal.returns-clause-took
 returns-clause-took g c = λ record_of took.
     subst (λ (x : Parts _). EachTookItsBlock g.G.Told.draws record_of x) (sym c.begin.ensures.begun)
     (took-begun g.G.Told.draws record_of c.args.floor.now c.args.attempt took)
+
+pub returns-clause-reads : goal.returns-clause-reads
+returns-clause-reads g c = λ gave.
+    subst (λ (x : Parts _). EachGaveItsBlock g.G.Told.draws x) (sym c.begin.ensures.begun)
+    (gave-begun g.G.Told.draws c.args.floor.now c.args.attempt gave)

@@ -97,6 +97,7 @@ loop-made-init g c = record {
   took = λ record_of all queues took. took;
   log = ([], sym (append-nil c.args.floor.now.recorder.log));
   writes = λ before. before;
+  reads = λ before. before;
   stops = λ ran halted. absurd (halted ran);
   others_hold = λ ran halted. absurd (halted ran);
   origin = refl;
@@ -133,6 +134,7 @@ loop-made-preserved g c =
       took = λ record_of all queues took. done.took record_of (inv.hold all queues) (inv.took record_of all queues took);
       log = (inv.log.0 ++ done.log.0, done.log.1 ∙ ap (λ (l : List Carried). l ++ done.log.0) inv.log.1 ∙ append_assoc f.recorder.log inv.log.0 done.log.0);
       writes = λ before. done.writes (inv.writes before);
+      reads = λ before. done.reads (inv.reads before);
       stops = λ ran halted. (
         turns_made now,
         done.stops halted,
@@ -215,6 +217,12 @@ returns-then-is_over-clause-writes g c = c.loop-made.invariant.writes
 
 pub returns-clause-writes : goal.returns-clause-writes
 returns-clause-writes g c = c.loop-made.invariant.writes
+
+pub returns-then-is_over-clause-reads : goal.returns-then-is_over-clause-reads
+returns-then-is_over-clause-reads g c = c.loop-made.invariant.reads
+
+pub returns-clause-reads : goal.returns-clause-reads
+returns-clause-reads g c = c.loop-made.invariant.reads
 
 pub returns-then-is_over-clause-stops : goal.returns-then-is_over-clause-stops
 returns-then-is_over-clause-stops g c =

@@ -79,3 +79,6 @@ returns-clause-writes g c = c.turn.ensures.writes
 
 pub returns-clause-log : goal.returns-clause-log
 returns-clause-log g c = (_, c.turn.ensures.log c.requires.begun c.requires.runs)
+
+pub returns-clause-reads : goal.returns-clause-reads
+returns-clause-reads g c = c.turn.ensures.reads

@@ -52,3 +52,6 @@ returns-clause-writes g c = c.step.ensures.writes
 
 pub returns-clause-log : goal.returns-clause-log
 returns-clause-log g c = c.step.ensures.log
+
+pub returns-clause-reads : goal.returns-clause-reads
+returns-clause-reads g c = c.step.ensures.reads

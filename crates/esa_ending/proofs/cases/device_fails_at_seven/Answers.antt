@@ -1,4 +1,4 @@
-use Rattle.std.proofs.Common.{[], ◌∷◌, take, drop, refl, arith}
+use Rattle.std.proofs.Common.{[], ◌∷◌, inr, replicate, take, drop, refl, arith}
 use Rattle.esa_params.specs.declared.slot.Op.TheVariants.{Write}
 use Rattle.esa_params.specs.declared.slot.Region.TheVariants.{Mid}
 use Rattle.esa_spec.specs.Cases.{accessed, base_trace}
@@ -12,6 +12,7 @@ returns c = record {
     last = (take 6 base_trace, refl);
     turns = (0 ∷ [], refl);
     of_stored = ([], refl);
+    none_behind = λ some. inr (record { before = replicate 8 0; worker = 0; turns = refl; made = refl });
     history = refl;
   };
   slot = refl;

@@ -1,4 +1,4 @@
-use Rattle.std.proofs.Common.{[], take, drop, refl}
+use Rattle.std.proofs.Common.{[], inl, take, drop, refl}
 use Rattle.esa_params.specs.declared.slot.Op.TheVariants.{Read}
 use Rattle.esa_params.specs.declared.slot.Region.TheVariants.{Mid}
 use Rattle.esa_spec.specs.Cases.{accessed, base_trace}
@@ -12,6 +12,7 @@ returns-clause-tampered c = record {
     last = (take 10 base_trace, refl);
     turns = ([], refl);
     of_stored = (drop 11 base_trace, refl);
+    none_behind = λ some. inl refl;
     history = refl;
   };
   slot = refl;

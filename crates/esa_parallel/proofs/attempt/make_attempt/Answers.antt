@@ -102,3 +102,6 @@ returns-clause-took g c = λ record_of items.
 
 pub returns-clause-writes : goal.returns-clause-writes
 returns-clause-writes g c = c.finish-end.ensures.writes c.distribute-held.ensures.kept.writes
+
+pub returns-clause-reads : goal.returns-clause-reads
+returns-clause-reads g c = c.finish-end.ensures.reads c.distribute-held.ensures.kept.reads

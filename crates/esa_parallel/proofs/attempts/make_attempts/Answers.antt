@@ -17,12 +17,14 @@ use Rattle.esa_ending.proofs.FrontLaws.{onward}
 use Rattle.esa_floor.specs.Keeping.{HasInput}
 use Rattle.esa_floor.specs.Marks.{roots_of}
 use Rattle.esa_floor.specs.Standing.{turns_made}
+use Rattle.esa_floor.specs.Written.{EachGaveItsBlock, EachUntil, GaveItsOwn}
 use Rattle.esa_floor.specs.declared.floor.Roots.{Roots}
 use Rattle.esa_floor.specs.declared.turn.Outcome.{Outcome}
 use Rattle.esa_shuffle.specs.Attempts.{AttemptEnd, WritesEnd}
-use Rattle.esa_shuffle.specs.Records.{WritesOf}
+use Rattle.esa_shuffle.specs.Records.{ReadsOf, WritesOf}
 use Rattle.esa_shuffle.specs.Runs.{MayEnd, lists_ended}
 use Rattle.esa_shuffle.proofs.Contents.{faithful_before}
+use Rattle.esa_shuffle.proofs.Giving.{cut_gave}
 use Rattle.esa_shuffle.proofs.Stopped.{good_is}
 use Rattle.esa_shuffle.proofs.Taken.{cut_short, cut_writes}
 use Rattle.esa_workers.proofs.Distributing.{first_of}
@@ -51,6 +53,7 @@ loop-attempt-init g c =
       input = λ record_of faithful input. input;
       took = c.requires.took;
       writes = c.requires.writes;
+      reads = c.requires.reads;
       origin = refl;
     }
 
@@ -143,6 +146,11 @@ module _ (g : Over) (c : After-make_attempt-after g) where
     writes_is : WritesEnd (Ok v) c.make_attempt-after.result.held.value.recorder.log
     writes_is = subst (λ (r : Result Verdict VaultFault). WritesEnd r c.make_attempt-after.result.held.value.recorder.log) is c.make_attempt-after.ensures.writes
 
+    reads_is : EachGaveItsBlock ds c.make_attempt-after.result.held.value
+    reads_is =
+        let new = c.make_attempt-after.result.held.value in
+        subst (λ (r : Result Verdict VaultFault). EachUntil (GaveItsOwn ds new) r new.recorder.log) is c.make_attempt-after.ensures.reads
+
 pub returns-then-is_good-clause-ends : goal.returns-then-is_good-clause-ends
 returns-then-is_good-clause-ends g c =
     let at = (goal.at.returns-then-is_good-clause-ends g c).After-make_attempt-after in
@@ -203,6 +211,9 @@ returns-then-is_good-clause-took g c = c.make_attempt-after.ensures.took
 pub returns-then-is_good-clause-writes : goal.returns-then-is_good-clause-writes
 returns-then-is_good-clause-writes g c = writes_is g (goal.at.returns-then-is_good-clause-writes g c).After-make_attempt-after c.in-Ok.verdict c.in-Ok.is
 
+pub returns-then-is_good-clause-reads : goal.returns-then-is_good-clause-reads
+returns-then-is_good-clause-reads g c = reads_is g (goal.at.returns-then-is_good-clause-reads g c).After-make_attempt-after c.in-Ok.verdict c.in-Ok.is
+
 pub returns-in-Err-clause-ends : goal.returns-in-Err-clause-ends
 returns-in-Err-clause-ends g c =
     let at = (goal.at.returns-in-Err-clause-ends g c).After-make_attempt-after in
@@ -256,6 +267,16 @@ returns-in-Err-clause-writes g c =
     subst (λ (o : Outcome). WritesOf o log) (sym c.outcome_by.ensures)
     (cut_writes c.in-Err.fault log (subst (λ (r : Result Verdict VaultFault). WritesEnd r log) c.in-Err.is c.make_attempt-after.ensures.writes))
 
+pub returns-in-Err-clause-reads : goal.returns-in-Err-clause-reads
+returns-in-Err-clause-reads g c =
+    let new = c.make_attempt-after.result.held.value in
+    let Own = GaveItsOwn g.G.Told.draws new in
+    subst (λ (o : Outcome). ReadsOf Own o new.recorder.log) (sym c.outcome_by.ensures)
+    (cut_gave Own c.in-Err.fault new.recorder.log (subst (λ (r : Result Verdict VaultFault). EachUntil Own r new.recorder.log) c.in-Err.is c.make_attempt-after.ensures.reads))
+
+pub returns-clause-reads : goal.returns-clause-reads
+returns-clause-reads g c = c.loop-attempt.invariant.reads
+
 pub loop-attempt-preserved : goal.loop-attempt-preserved
 loop-attempt-preserved g c =
     let at = (goal.at.loop-attempt-preserved g c).After-make_attempt-after in
@@ -280,6 +301,7 @@ loop-attempt-preserved g c =
       input = input_on g at;
       took = done.took;
       writes = writes_is g at v c.in-Ok.is;
+      reads = reads_is g at v c.in-Ok.is;
       origin = origin_on g at;
     }
 

@@ -4,7 +4,7 @@ use Rattle.std.specs.Prelude.{slice_index_or}
 use Rattle.esa_device.specs.Logs.{IsFaithful}
 use Rattle.esa_floor.specs.Keeping.{HasInput}
 use Rattle.esa_floor.specs.Marks.{roots_of}
-use Rattle.esa_floor.specs.Written.{AreItems, EachTookItsBlock, NoWriteFailed}
+use Rattle.esa_floor.specs.Written.{AreItems, EachGaveItsBlock, EachTookItsBlock, NoWriteFailed}
 use Rattle.esa_params.specs.Slots.{item_length}
 use Rattle.esa_report.specs.declared.item.Item.{Item}
 use Rattle.esa_spec.specs.Fronts.{Begins}
@@ -29,5 +29,6 @@ invariant-loop-attempt g l = record {
   input : (record_of : ℕ → Item) → IsFaithful g.G.Told.plan l.held.value.recorder.log → HasInput l.fn.held.value record_of → HasInput l.held.value record_of;
   took : (record_of : ℕ → Item) → AreItems (item_length g.G.Told.plan.form) record_of → EachTookItsBlock g.G.Told.draws record_of l.held.value;
   writes : NoWriteFailed l.held.value.recorder.log;
+  reads : EachGaveItsBlock g.G.Told.draws l.held.value;
   origin : roots_of l.held.value ≡ roots_of l.fn.held.value;
 }

@@ -1,11 +1,17 @@
-use Rattle.std.proofs.Common.{◌≡◌, ℕ, ◌*◌, drop, length, get_or, flat_map, ap, sym, arith, length-drop}
+use Rattle.std.proofs.Common.{◌≡◌, ℕ, ◌*◌, ◌+◌, drop, length, get_or, flat_map, ap, sym, arith, length-drop}
 use Rattle.esa_params.specs.Sizes.{below}
 use Rattle.esa_params.specs.Slots.{at, item_length}
 use Rattle.esa_params.specs.declared.slot.Region.TheVariants.{Tail}
 use Rattle.esa_stash.specs.Stash.{padded}
 use Rattle.esa_vault.specs.Seals.{opens}
-use Rattle.esa_press.proofs.Fetching.{faithful_old, fetched_more, import_counted, import_given, import_spelled, on_ok, part_is_tail, records_got-ok}
+use Rattle.esa_press.proofs.Fetching.{faithful_old, fetched_bad, fetched_more, import_counted, import_given, import_spelled, on_ok, part_is_tail, records_got-ok}
 use Rattle.esa_press.proofs.import.fetch_import.Goals as goal
+
+pub returns-in-Err-clause-fetched : goal.returns-in-Err-clause-fetched
+returns-in-Err-clause-fetched g c =
+    let p = c.args.plan.now in
+    fetched_bad g.V.Device.told g.V.Device.faults g.V.Device.last_call p c.args.keys.now c.args.attempt c.args.target c.args.counts.now
+    p.b (p.b + 1) c.args.recorder.now c.fetch_chunks.new.recorder c.in-Err.fault (omega arith) c.in-Err.ensures.fetched
 
 pub returns-clause-fetched : goal.returns-clause-fetched
 returns-clause-fetched g c =

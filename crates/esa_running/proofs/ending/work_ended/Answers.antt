@@ -4,6 +4,7 @@ use Rattle.esa_shuffle.specs.Runs.{seen_of}
 use Rattle.esa_running.specs.ComingOut.{IsMadeOf}
 use Rattle.esa_running.specs.RunTaken.{run_taken}
 use Rattle.esa_running.specs.Wanted.{sizes_in, turns_by}
+use Rattle.esa_running.proofs.ComingOut.{made_opens}
 use Rattle.esa_running.proofs.RanEnds.{Ended, overflowed, failed_at, tampered_at, unloaded, few_failures}
 use Rattle.esa_running.proofs.Rooms.{scans_room}
 use Rattle.esa_running.proofs.ending.work_ended.Goals as goal
@@ -25,10 +26,10 @@ work_shuffled-requires-clause-room g c =
     subst (λ p. 2 * p.b ≤ recorder.room) (sym plan)
     (scans_room (sizes_in asked) asked.draws (turns_by asked c.args.history.now) seen c.in-Shuffled.attempt recorder.room shuffled (subst (λ p. greatest_trace p ≤ length recorder.trace + recorder.room) plan c.requires.room))
 
-pub returns-in-Shuffled : goal.returns-in-Shuffled
-returns-in-Shuffled g c = λ device batch given met made.
+pub returns-in-Shuffled-clause-works : goal.returns-in-Shuffled-clause-works
+returns-in-Shuffled-clause-works g c = λ device batch given met made.
     let seen = seen_of g.V.Device.faults device batch c.args.recorder.now c.args.history.now (g.K.Cabinet.faults c.args.cabinet.now) in
-    c.work_shuffled.ensures device batch given (subst (Ended (run_taken c.args.input.now) seen c.args.recorder.now.last c.args.failures.now) c.in-Shuffled.is met).outcome
+    c.work_shuffled.ensures.works device batch given (subst (Ended (run_taken c.args.input.now) seen c.args.recorder.now.last c.args.failures.now) c.in-Shuffled.is met).outcome
     (subst (λ o. IsMadeOf (run_taken c.args.input.now) c.args.history.now c.args.recorder.now.log o given) c.in-Shuffled.is made)
 
 pub failures_of-requires : goal.failures_of-requires
@@ -40,38 +41,38 @@ failures_of-requires g c =
     let few = few_failures asked seen last c.args.failures.now (subst (Ended asked seen last c.args.failures.now) c.in-Overflow.is met.2) in
     subst (λ p. length c.args.failures.now ≤ p.attempts) (sym c.requires.taken.plan) few
 
-pub returns-in-Overflow : goal.returns-in-Overflow
-returns-in-Overflow g c = λ device batch given met made.
+pub returns-in-Overflow-clause-works : goal.returns-in-Overflow-clause-works
+returns-in-Overflow-clause-works g c = λ device batch given met made.
     let asked = run_taken c.args.input.now in
     let seen = seen_of g.V.Device.faults device batch c.args.recorder.now c.args.history.now (g.K.Cabinet.faults c.args.cabinet.now) in
     let last = c.args.recorder.now.last in
     let e = subst (Ended asked seen last c.args.failures.now) c.in-Overflow.is met in
     let m = subst (λ o. IsMadeOf asked c.args.history.now c.args.recorder.now.log o given) c.in-Overflow.is made in
-    (_, inr (inl (overflowed asked seen last c.args.failures.now c.failures_of.result c.failures_of.ensures e)), record { took = m.shuffled.took; failed = m.shuffled.failed }, c.work_failed.ensures)
+    (_, inr (inl (overflowed asked seen last c.args.failures.now c.failures_of.result c.failures_of.ensures e)), record { took = m.shuffled.took; failed = m.shuffled.failed; written = m.shuffled.written; gave = made_opens asked given c.args.history.now c.args.recorder.now.log _ m }, c.work_failed.ensures)
 
-pub returns-in-DeviceFault : goal.returns-in-DeviceFault
-returns-in-DeviceFault g c = λ device batch given met made.
+pub returns-in-DeviceFault-clause-works : goal.returns-in-DeviceFault-clause-works
+returns-in-DeviceFault-clause-works g c = λ device batch given met made.
     let asked = run_taken c.args.input.now in
     let seen = seen_of g.V.Device.faults device batch c.args.recorder.now c.args.history.now (g.K.Cabinet.faults c.args.cabinet.now) in
     let last = c.args.recorder.now.last in
     let e = subst (Ended asked seen last c.args.failures.now) c.in-DeviceFault.is met in
     let m = subst (λ o. IsMadeOf asked c.args.history.now c.args.recorder.now.log o given) c.in-DeviceFault.is made in
-    (_, inr (inr (inl (failed_at asked seen last c.args.failures.now c.in-DeviceFault.slot e))), record { took = m.shuffled.took; failed = m.shuffled.failed }, c.work_failed-in-DeviceFault.ensures)
+    (_, inr (inr (inl (failed_at asked seen last c.args.failures.now c.in-DeviceFault.slot e))), record { took = m.shuffled.took; failed = m.shuffled.failed; written = m.shuffled.written; gave = made_opens asked given c.args.history.now c.args.recorder.now.log _ m }, c.work_failed-in-DeviceFault.ensures)
 
-pub returns-in-Tampered : goal.returns-in-Tampered
-returns-in-Tampered g c = λ device batch given met made.
+pub returns-in-Tampered-clause-works : goal.returns-in-Tampered-clause-works
+returns-in-Tampered-clause-works g c = λ device batch given met made.
     let asked = run_taken c.args.input.now in
     let seen = seen_of g.V.Device.faults device batch c.args.recorder.now c.args.history.now (g.K.Cabinet.faults c.args.cabinet.now) in
     let last = c.args.recorder.now.last in
     let e = subst (Ended asked seen last c.args.failures.now) c.in-Tampered.is met in
     let m = subst (λ o. IsMadeOf asked c.args.history.now c.args.recorder.now.log o given) c.in-Tampered.is made in
-    (_, inr (inr (inr (inl (tampered_at asked seen last c.args.failures.now c.in-Tampered.slot e)))), record { took = m.shuffled.took; failed = m.shuffled.failed }, c.work_failed-in-Tampered.ensures)
+    (_, inr (inr (inr (inl (tampered_at asked seen last c.args.failures.now c.in-Tampered.slot e)))), record { took = m.shuffled.took; failed = m.shuffled.failed; written = m.shuffled.written; gave = made_opens asked given c.args.history.now c.args.recorder.now.log _ m }, c.work_failed-in-Tampered.ensures)
 
-pub returns-in-BatchFailed : goal.returns-in-BatchFailed
-returns-in-BatchFailed g c = λ device batch given met made.
+pub returns-in-BatchFailed-clause-works : goal.returns-in-BatchFailed-clause-works
+returns-in-BatchFailed-clause-works g c = λ device batch given met made.
     let asked = run_taken c.args.input.now in
     let seen = seen_of g.V.Device.faults device batch c.args.recorder.now c.args.history.now (g.K.Cabinet.faults c.args.cabinet.now) in
     let last = c.args.recorder.now.last in
     let e = subst (Ended asked seen last c.args.failures.now) c.in-BatchFailed.is met in
     let m = subst (λ o. IsMadeOf asked c.args.history.now c.args.recorder.now.log o given) c.in-BatchFailed.is made in
-    (_, inr (inr (inr (inr (inl (unloaded asked seen last c.args.failures.now e))))), record { took = m.shuffled.took; failed = m.shuffled.failed }, c.work_unloaded.ensures)
+    (_, inr (inr (inr (inr (inl (unloaded asked seen last c.args.failures.now e))))), record { took = m.shuffled.took; failed = m.shuffled.failed; written = m.shuffled.written; gave = made_opens asked given c.args.history.now c.args.recorder.now.log _ m }, c.work_unloaded.ensures)

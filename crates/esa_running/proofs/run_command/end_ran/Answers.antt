@@ -1,4 +1,5 @@
-use Rattle.std.proofs.Common.{sym, subst}
+use Rattle.std.proofs.Common.{◌∙◌, sym, subst}
+use Rattle.esa_device.specs.Logs.{IsBacked}
 use Rattle.esa_shuffle.specs.Runs.{seen_of}
 use Rattle.esa_running.specs.ComingOut.{Became, IsMadeOf}
 use Rattle.esa_running.specs.Outlets.{purpose_of}
@@ -34,7 +35,7 @@ returns-clause-works g c = λ device batch given met made.
     let now = g.K.Cabinet.faults c.args.cabinet.now in
     let new = c.work_ended-end.new.recorder in
     let done =
-    c.work_ended-end.ensures device batch given
+    c.work_ended-end.ensures.works device batch given
     (subst (λ history. EndsShuffle asked (seen_of g.V.Device.faults device batch ran.recorder history now) ran.recorder.last ran.failures ran.outcome) (sym c.entries.ensures) met)
     (subst (λ history. IsMadeOf asked history ran.recorder.log ran.outcome given) (sym c.entries.ensures) made) in
     record {
@@ -42,4 +43,15 @@ returns-clause-works g c = λ device batch given met made.
       ends = subst (λ history. HasEnded (purpose_of c.args.store.outlet) g.V.Device.told g.V.Device.faults asked given (seen_of g.V.Device.faults device batch new history now) new done.0) c.entries.ensures done.1;
       became = subst (λ history. Became asked given history new.log done.0.ended) c.entries.ensures done.2;
       settles = done.3;
+    }
+
+pub returns-clause-recorder : goal.returns-clause-recorder
+returns-clause-recorder g c =
+    let ran = c.args.ran in
+    let new = c.work_ended-end.new.recorder in
+    let plan = c.work_ended-end.ensures.plan ∙ c.requires.ready in
+    record {
+      plan = λ some. plan;
+      logged = c.keeps_its_log.ensures.accesses;
+      backed = subst (λ p. IsBacked p (g.V.Device.told new.device) new.log) plan c.keeps_its_log.ensures.backed;
     }

@@ -1,4 +1,4 @@
-use Rattle.std.proofs.Common.{◌<◌, inl, sym, subst}
+use Rattle.std.proofs.Common.{◌<◌, inl, inr, Some, sym, ap, ◌∙◌, subst}
 use Rattle.esa_floor.specs.declared.turn.Outcome.TheVariants.{Shuffled}
 use Rattle.esa_spec.specs.Draws.{IsDrawn}
 use Rattle.esa_command.specs.Doing.{failed_work}
@@ -8,7 +8,7 @@ use Rattle.esa_running.specs.Forwarding.{AreJoined}
 use Rattle.esa_running.specs.Outlets.{HasRoom}
 use Rattle.esa_running.specs.RunTaken.{run_taken}
 use Rattle.esa_running.specs.RunWork.{records_of}
-use Rattle.esa_running.proofs.ComingOut.{drawn_for, forwarded_on, broken_on, became_well, became_broken}
+use Rattle.esa_running.proofs.ComingOut.{drawn_for, forwarded_on, forwarded_opens, broken_on, broken_opens, became_well, became_broken, made_opens}
 use Rattle.esa_running.proofs.RunEnds.{succeeded, success_fits, broken_off, broken_fits}
 use Rattle.esa_running.proofs.working.work_shuffled.Goals as goal
 
@@ -33,8 +33,8 @@ work_failed-requires-clause-fits g c =
     broken_fits g.V.Device.told g.V.Device.faults (run_taken c.args.input.now) s.0 s.1 (g.K.Cabinet.faults c.args.cabinet.now) c.args.history.now c.args.attempt c.args.recorder.now c.forward_output.new.recorder s.2
     c.requires.taken.limits c.in-Err.fault c.in-Err.ensures.broken
 
-pub returns-in-Ok : goal.returns-in-Ok
-returns-in-Ok g c = λ device batch given s made.
+pub returns-in-Ok-clause-works : goal.returns-in-Ok-clause-works
+returns-in-Ok-clause-works g c = λ device batch given s made.
     let f = c.in-Ok.ensures.forwarded in
     let asked = run_taken c.args.input.now in
     let attempt = c.args.attempt in
@@ -44,13 +44,14 @@ returns-in-Ok g c = λ device batch given s made.
     let drawn = subst (λ p. attempt < p.attempts → IsDrawn p (asked.draws attempt)) taken.coins (drawn_for c.args.input.now.coins attempt) s.planned in (
       _,
       inl (succeeded g.V.Device.told g.V.Device.faults asked device batch (g.K.Cabinet.faults c.args.cabinet.now) c.args.history.now attempt old new s taken.limits drawn given made
-          _ f.0 f.1),
-      became_well asked given c.args.history.now old.log new.log (forwarded_on g.V.Device.told g.V.Device.faults asked attempt old new f.0 f.1) (Shuffled attempt) made made.shuffled.failed,
+          (record { plan = c.requires.ready ∙ ap Some taken.plan; trace = s.made; logged = c.keeps_its_log.ensures.accesses }) _ f.0 f.1),
+      became_well asked given c.args.history.now old.log new.log (forwarded_on g.V.Device.told g.V.Device.faults asked attempt old new f.0 f.1) (Shuffled attempt) made made.shuffled.failed
+          (forwarded_opens asked c.args.history.now attempt g.V.Device.told g.V.Device.faults old new (made_opens asked given c.args.history.now old.log (Shuffled attempt) made) f.0 f.1),
       c.work_forwarded.ensures f.0 (subst (AreJoined (run_taken c.args.input.now) f.0) (sym c.forward.ensures) f.2),
     )
 
-pub returns : goal.returns
-returns g c = λ device batch given s made.
+pub returns-clause-works : goal.returns-clause-works
+returns-clause-works g c = λ device batch given s made.
     let asked = run_taken c.args.input.now in
     let cabinet = stand g.K.Cabinet.told g.K.Cabinet.faults g.K.Cabinet.heard in
     let printer = stand g.P.Printer.told g.P.Printer.faults g.P.Printer.heard in (
@@ -59,7 +60,18 @@ returns g c = λ device batch given s made.
           _ given c.in-Err.fault c.in-Err.ensures.broken,
       became_broken asked given c.args.history.now c.args.recorder.now.log c.forward_output.new.recorder.log
           (broken_on g.V.Device.told g.V.Device.faults asked c.args.attempt c.args.recorder.now c.forward_output.new.recorder c.in-Err.fault c.in-Err.ensures.broken)
-          (Shuffled c.args.attempt) made c.in-Err.fault made.shuffled.failed,
+          (Shuffled c.args.attempt) made c.in-Err.fault made.shuffled.failed
+          (broken_opens asked c.args.history.now c.args.attempt g.V.Device.told g.V.Device.faults c.args.recorder.now c.forward_output.new.recorder
+          (made_opens asked given c.args.history.now c.args.recorder.now.log (Shuffled c.args.attempt) made) c.in-Err.fault c.in-Err.ensures.broken),
       subst (λ status. Settles (failed_work status (records_of asked c.forward_output.new.recorder.trace c.args.history.now)) (cabinet c.args.cabinet.now) (cabinet c.work_failed.new.cabinet) (printer c.args.printer.now) (printer c.work_failed.new.printer) c.work_failed.result)
           c.status_of_fault-status.ensures c.work_failed.ensures,
     )
+
+pub returns-in-Ok-clause-plan : goal.returns-in-Ok-clause-plan
+returns-in-Ok-clause-plan g c = c.in-Ok.ensures.forwarded.1.forwarded.plan
+
+pub returns-clause-plan : goal.returns-clause-plan
+returns-clause-plan g c = elim c.in-Err.ensures.broken.1 [
+  | inl fails ↦ fails.plan
+  | inr fails ↦ fails.plan
+]

@@ -1,6 +1,6 @@
 -- All chunks are written where the turns have not stopped, and the history has the turns. The input stays, and the output
 -- has its records.
-use Rattle.std.proofs.Common.{◌≡◌, ℕ, ◌*◌, List, None, map, sym, ap, ◌∙◌, subst}
+use Rattle.std.proofs.Common.{◌≡◌, ℕ, ◌*◌, List, Option, None, map, sym, ap, ◌∙◌, subst}
 use Rattle.esa_device.specs.Logs.{Carried, IsFaithful}
 use Rattle.esa_envelope.specs.declared.keys.Keys.{Keys}
 use Rattle.esa_params.specs.Sizes.{Sizes}
@@ -12,11 +12,13 @@ use Rattle.esa_crew.specs.Posts.{ArePosts}
 use Rattle.esa_floor.specs.Keeping.{HasInput, QueuesHold, SlotsHold}
 use Rattle.esa_floor.specs.Parts.{Parts, begun_as}
 use Rattle.esa_floor.specs.Standing.{attempt_begun, turns_made}
-use Rattle.esa_floor.specs.Written.{AreItems, EachTookItsBlock, WritesFailed}
+use Rattle.esa_floor.specs.Written.{AreItems, EachGaveItsBlock, EachTookItsBlock, GaveItsOwn, ReadsGave, ReadsGaveTheirBlocks, WritesFailed}
 use Rattle.esa_floor.specs.declared.floor.Roots.{Roots}
+use Rattle.esa_floor.specs.declared.turn.Stop.{Stop}
 use Rattle.esa_press.specs.Contents.{AreOutputsStored}
 use Rattle.esa_shuffle.proofs.Contents.{faithful_before, input_stays}
-use Rattle.esa_shuffle.proofs.Taking.{adds, all_written, good_turns, members_on}
+use Rattle.esa_shuffle.specs.Attempts.{EndsByStop}
+use Rattle.esa_shuffle.proofs.Taking.{adds, all_written, good_turns, members_on, stops_short}
 use Rattle.esa_shuffle.proofs.attempt.make_attempt.Goals as goal
 
 pub finish-requires-clause-all : goal.finish-requires-clause-all
@@ -33,6 +35,19 @@ returns-clause-history g c =
     c.replay.ensures.replayed c.replay.ensures.origin c.replay.ensures.stands c.replay.ensures.attempt c.requires.some c.requires.numbers
     c.finish.new.floor (ap (λ (x : Parts _). x.plan) c.finish.ensures.floor ∙ ap (λ (x : Parts _). x.plan) c.keep_log-2.ensures.same)
     (ap (λ (x : Parts _). x.history) c.finish.ensures.floor ∙ ap (λ (x : Parts _). x.history) c.keep_log-2.ensures.same) c.finish.result c.finish.ensures.ends
+
+pub returns-clause-behind : goal.returns-clause-behind
+returns-clause-behind g c =
+    let now = c.keep_log-2.new.floor in
+    let last = c.finish.new.floor in
+    stops_short g.V.Device.faults g.G.Told.plan g.G.Told.draws c.args.floor.now c.begin.new.floor c.replay.new.floor c.args.attempt c.args.turns.now
+    (c.begin.ensures.begun ∙ ap (λ (x : Parts _). begun_as x c.args.attempt) c.keep_log.ensures.same) c.begin.ensures.stands
+    c.replay.ensures.replayed c.replay.ensures.origin c.replay.ensures.stands c.replay.ensures.attempt c.requires.some c.requires.numbers
+    last (ap (λ (x : Parts _). x.plan) c.finish.ensures.floor ∙ ap (λ (x : Parts _). x.plan) c.keep_log-2.ensures.same)
+    (ap (λ (x : Parts _). x.history) c.finish.ensures.floor ∙ ap (λ (x : Parts _). x.history) c.keep_log-2.ensures.same) c.finish.result
+    (subst (λ (x : Parts _). EndsByStop x.stop c.finish.result) c.keep_log-2.ensures.same c.finish.ensures.stopped)
+    (λ there. ap (λ (x : Parts _). x.recorder) (c.finish.ensures.still (λ none. there (sym (ap (λ (x : Parts _). x.stop) c.keep_log-2.ensures.same) ∙ none)) ∙ c.keep_log-2.ensures.same))
+    (λ there. let at = c.replay.ensures.stops there in (at.0, at.1))
 
 pub returns-clause-members : goal.returns-clause-members
 returns-clause-members g c =
@@ -106,3 +121,13 @@ returns-clause-writes g c = λ none.
     let is = c.begin.ensures.begun ∙ ap (λ (x : Parts _). begun_as x c.args.attempt) c.keep_log.ensures.same in
     c.finish.ensures.writes (subst (λ (x : Parts _). WritesFailed x.stop x.recorder.log) (sym c.keep_log-2.ensures.same)
     (c.replay.ensures.writes (subst (λ (x : Parts _). WritesFailed x.stop x.recorder.log) (sym is) none)))
+
+pub returns-clause-reads : goal.returns-clause-reads
+returns-clause-reads g c = λ gave.
+    let ds = g.G.Told.draws in
+    let now = c.begin.new.floor in
+    let is = c.begin.ensures.begun ∙ ap (λ (x : Parts _). begun_as x c.args.attempt) c.keep_log.ensures.same in
+    let begun = c.begin.ensures.reads (subst (λ (x : Parts _). EachGaveItsBlock ds x) (sym c.keep_log.ensures.same) gave) in
+    c.finish.ensures.reads
+    (subst (λ (x : Parts _). ReadsGaveTheirBlocks ds x) (sym c.keep_log-2.ensures.same)
+    (c.replay.ensures.reads (subst (λ (s : Option Stop). ReadsGave (GaveItsOwn ds now) s now.recorder.log) (sym (ap (λ (x : Parts _). x.stop) is)) begun)))

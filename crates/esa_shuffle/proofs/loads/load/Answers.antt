@@ -1,9 +1,11 @@
 -- The load ends the run, or the first attempt may begin.
 use Rattle.std.proofs.Common.{◌+◌, ◌++◌, ◌∷◌, [], All, Ok, Err, sym, subst, arith}
-use Rattle.esa_floor.specs.Written.{IsOfInput, NoWriteFailed, OnlyLastFailed}
+use Rattle.esa_floor.specs.declared.turn.Outcome.TheVariants as outcome
+use Rattle.esa_floor.specs.Written.{NoWriteFailed, OnlyLastFailed, WritesInput}
 use Rattle.esa_load.specs.Loads.{LoadEnd, Source, failed_block, written_blocks}
 use Rattle.esa_load.specs.declared.fault.LoadFault.{LoadFault}
 use Rattle.esa_load.specs.declared.fault.LoadFault.TheVariants.{Batch, Device}
+use Rattle.esa_shuffle.proofs.Inputs.{written_badly, written_well}
 use Rattle.esa_shuffle.proofs.Loaded.{all_given, batch_ends, device_ends, is_loaded, log_is, moved, some_given}
 use Rattle.esa_shuffle.proofs.Taken.{failed_input, failed_writes, loaded_input, loaded_writes}
 use Rattle.esa_shuffle.proofs.loads.load.Goals as goal
@@ -69,7 +71,7 @@ returns-in-Ok-clause-given g c =
     let given = c.in-Ok.ensures.end.0 in
     let end = moved faults g.G.Told.plan g.G.Told.draws f c.requires.new r told part given before after c.args.loader.now.plan c.args.loader.now.run c.recorder.result.now (Ok c.in-Ok.field-0) c.requires.plan c.requires.run
     c.recorder.ensures.value c.in-Ok.ensures.end.1 in
-    all_given faults g.G.Told.plan g.G.Told.draws f c.requires.new r told part given before after end.0 (c.loaded_batches_are_input.ensures f.plan f.outer f.run given f.recorder.log)
+    all_given faults g.G.Told.plan g.G.Told.draws f c.requires.new r told part given before after end.0 (c.loaded_batches_are_input.ensures f.plan f.outer f.run given f.recorder.log) tt
 
 pub returns-in-Err-Batch-clause-given : goal.returns-in-Err-Batch-clause-given
 returns-in-Err-Batch-clause-given g c =
@@ -88,6 +90,7 @@ returns-in-Err-Batch-clause-given g c =
     c.in-Err-Batch.ensures.end.1) in
     let inside = end.0 in
     some_given faults g.G.Told.plan g.G.Told.draws f c.requires.new r told part given before after c.in-Err-Batch.field-0-0 (written_blocks f.plan f.run given c.in-Err-Batch.field-0-0) (omega (arith, inside)) end.1
+    (written_well f.plan f.run given c.in-Err-Batch.field-0-0 end.1.bytes) outcome.BatchFailed
 
 pub returns-in-Err-Device-clause-given : goal.returns-in-Err-Device-clause-given
 returns-in-Err-Device-clause-given g c =
@@ -106,6 +109,7 @@ returns-in-Err-Device-clause-given g c =
     c.in-Err-Device.ensures.end.1) in
     let inside = end.1 in
     some_given faults g.G.Told.plan g.G.Told.draws f c.requires.new r told part given before after (end.0 + 1) (written_blocks f.plan f.run given end.0 ++ failed_block f.plan end.0 ∷ []) (omega (arith, inside)) end.3
+    (written_badly f.plan f.run given end.0 end.3.bytes) (outcome.DeviceFault c.in-Err-Device.number)
 
 pub returns-in-Ok-clause-input : goal.returns-in-Ok-clause-input
 returns-in-Ok-clause-input g c = λ empty.
@@ -120,7 +124,7 @@ returns-in-Ok-clause-input g c = λ empty.
     let end = moved faults g.G.Told.plan g.G.Told.draws f c.requires.new r told part given before after c.args.loader.now.plan c.args.loader.now.run c.recorder.result.now (Ok c.in-Ok.field-0) c.requires.plan c.requires.run
     c.recorder.ensures.value c.in-Ok.ensures.end.1 in
     let is = log_is faults g.G.Told.plan g.G.Told.draws f c.requires.new r told part given before after f.plan.b (written_blocks f.plan f.run given f.plan.b) end.0 empty in
-    subst (All (IsOfInput f.plan)) (sym is) (loaded_input f.plan f.run given f.plan.b (omega arith))
+    subst (All (WritesInput f.plan)) (sym is) (loaded_input f.plan f.run given f.plan.b (omega arith))
 
 pub returns-in-Ok-clause-writes : goal.returns-in-Ok-clause-writes
 returns-in-Ok-clause-writes g c = λ empty.
@@ -155,7 +159,7 @@ returns-in-Err-Batch-clause-input g c = λ empty.
     c.in-Err-Batch.ensures.end.1) in
     let inside = end.0 in
     let is = log_is faults g.G.Told.plan g.G.Told.draws f c.requires.new r told part given before after j (written_blocks f.plan f.run given j) end.1 empty in
-    subst (All (IsOfInput f.plan)) (sym is) (loaded_input f.plan f.run given j (omega (arith, inside)))
+    subst (All (WritesInput f.plan)) (sym is) (loaded_input f.plan f.run given j (omega (arith, inside)))
 
 pub returns-in-Err-Batch-clause-writes : goal.returns-in-Err-Batch-clause-writes
 returns-in-Err-Batch-clause-writes g c = λ empty.
@@ -194,7 +198,7 @@ returns-in-Err-Device-clause-input g c = λ empty.
     c.in-Err-Device.ensures.end.1) in
     let j = end.0 in
     let is = log_is faults g.G.Told.plan g.G.Told.draws f c.requires.new r told part given before after (j + 1) (written_blocks f.plan f.run given j ++ failed_block f.plan j ∷ []) end.3 empty in
-    subst (All (IsOfInput f.plan)) (sym is) (failed_input f.plan f.run given j end.1)
+    subst (All (WritesInput f.plan)) (sym is) (failed_input f.plan f.run given j end.1)
 
 pub returns-in-Err-Device-clause-writes : goal.returns-in-Err-Device-clause-writes
 returns-in-Err-Device-clause-writes g c = λ empty.

@@ -1,5 +1,6 @@
 -- A turn that failed ends the attempt.
 use Rattle.std.proofs.Common.{Option, Some, Ok, Err, refl, sym, ap, ◌∙◌, subst}
+use Rattle.esa_floor.specs.Written.{GaveItsOwn, ReadsGave}
 use Rattle.esa_floor.specs.declared.turn.Stop.{Stop}
 use Rattle.esa_spec.specs.declared.event.Verdict.TheVariants as verdicts
 use Rattle.esa_vault.specs.declared.fault.VaultFault.TheVariants as fault
@@ -39,3 +40,27 @@ pub returns-in-Some-Tampered-clause-stopped : goal.returns-in-Some-Tampered-clau
 returns-in-Some-Tampered-clause-stopped g c =
     subst (λ (s : Option Stop). EndsByStop s (Err (fault.Tampered c.in-Some-Tampered.number)))
     (sym (sym c.stop.ensures ∙ c.in-Some-Tampered.is ∙ ap Some c.in-Some-Tampered.field-0-is)) refl
+
+pub returns-in-None-clause-reads : goal.returns-in-None-clause-reads
+returns-in-None-clause-reads g c = λ gave.
+    let f = c.args.floor.now in
+    c.press_on.ensures.reads
+    (subst (λ (s : Option Stop). ReadsGave (GaveItsOwn g.G.Told.draws f) s f.recorder.log) (sym c.stop.ensures ∙ c.in-None.is) gave)
+
+pub returns-in-Some-StashOverflow-clause-reads : goal.returns-in-Some-StashOverflow-clause-reads
+returns-in-Some-StashOverflow-clause-reads g c = λ gave.
+    let f = c.args.floor.now in
+    subst (λ (s : Option Stop). ReadsGave (GaveItsOwn g.G.Told.draws f) s f.recorder.log)
+    (sym c.stop.ensures ∙ c.in-Some-StashOverflow.is ∙ ap Some c.in-Some-StashOverflow.field-0-is) gave
+
+pub returns-in-Some-DeviceFault-clause-reads : goal.returns-in-Some-DeviceFault-clause-reads
+returns-in-Some-DeviceFault-clause-reads g c = λ gave.
+    let f = c.args.floor.now in
+    subst (λ (s : Option Stop). ReadsGave (GaveItsOwn g.G.Told.draws f) s f.recorder.log)
+    (sym c.stop.ensures ∙ c.in-Some-DeviceFault.is ∙ ap Some c.in-Some-DeviceFault.field-0-is) gave
+
+pub returns-in-Some-Tampered-clause-reads : goal.returns-in-Some-Tampered-clause-reads
+returns-in-Some-Tampered-clause-reads g c = λ gave.
+    let f = c.args.floor.now in
+    subst (λ (s : Option Stop). ReadsGave (GaveItsOwn g.G.Told.draws f) s f.recorder.log)
+    (sym c.stop.ensures ∙ c.in-Some-Tampered.is ∙ ap Some c.in-Some-Tampered.field-0-is) gave

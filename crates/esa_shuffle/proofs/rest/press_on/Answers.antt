@@ -4,11 +4,13 @@ use Rattle.esa_device.specs.Logs.{IsFaithful}
 use Rattle.esa_params.specs.Sizes.{Sizes}
 use Rattle.esa_floor.specs.Parts.{Parts}
 use Rattle.esa_floor.specs.Standing.{turns_made}
+use Rattle.esa_floor.specs.Written.{EachUntil, GaveItsOwn}
 use Rattle.esa_spec.specs.Turns.{order}
 use Rattle.esa_ending.proofs.FrontLaws.{onward}
 use Rattle.esa_shuffle.specs.Attempts.{AttemptEnd, WritesEnd}
-use Rattle.esa_press.proofs.Finishing.{chunks_are, queues_are, room_is}
+use Rattle.esa_press.proofs.Finishing.{chunks_are, queues_are, room_is, turns_are, turns_behind}
 use Rattle.esa_shuffle.proofs.Contents.{drain_bad, drained_log, faithful_before, outputs_on, press_bad, pressed_log}
+use Rattle.esa_shuffle.proofs.Giving.{rest_gave}
 use Rattle.esa_shuffle.proofs.Taken.{rest_writes, took_drained, took_pressed}
 use Rattle.esa_shuffle.proofs.Stopped.{drain_ends, press_done, press_ends}
 use Rattle.esa_shuffle.proofs.rest.press_on.Goals as goal
@@ -127,3 +129,31 @@ pub returns-in-Err-compress-clause-writes : goal.returns-in-Err-compress-clause-
 returns-in-Err-compress-clause-writes g c = λ none.
     subst (λ result. WritesEnd result c.compress.new.floor.recorder.log) (sym c.end_by-in-Err-compress.ensures)
     (rest_writes c.in-Err-compress.halt c.compress.new.floor.recorder.log (c.in-Err-compress.ensures.writes (c.in_default.ensures.writes none)))
+
+pub returns-in-Err-clause-reads : goal.returns-in-Err-clause-reads
+returns-in-Err-clause-reads g c = λ gave.
+    let x = c.drain.new.floor in
+    let Own = GaveItsOwn g.G.Told.draws x in
+    subst (λ result. EachUntil Own result x.recorder.log) (sym c.end_by.ensures)
+    (rest_gave Own c.in-Err.halt x.recorder.log
+    (c.in-Err.ensures.reads (turns_are g.V.Device.faults g.G.Told.plan g.G.Told.draws c.args.floor.now c.args.attempt c.requires.distributed) gave))
+
+pub returns-in-Ok-clause-reads : goal.returns-in-Ok-clause-reads
+returns-in-Ok-clause-reads g c = λ gave.
+    let f = c.args.floor.now in
+    let a = c.args.attempt in
+    c.in-Ok.ensures.reads
+    (turns_behind g.V.Device.faults g.G.Told.plan g.G.Told.draws f a c.requires.distributed c.drain.new.floor (Ok c.in_default.field-0) c.in_default.ensures.ends)
+    (c.in_default.ensures.reads (turns_are g.V.Device.faults g.G.Told.plan g.G.Told.draws f a c.requires.distributed) gave)
+
+pub returns-in-Err-compress-clause-reads : goal.returns-in-Err-compress-clause-reads
+returns-in-Err-compress-clause-reads g c = λ gave.
+    let f = c.args.floor.now in
+    let a = c.args.attempt in
+    let new = c.compress.new.floor in
+    let Own = GaveItsOwn g.G.Told.draws new in
+    subst (λ result. EachUntil Own result new.recorder.log) (sym c.end_by-in-Err-compress.ensures)
+    (rest_gave Own c.in-Err-compress.halt new.recorder.log
+    (c.in-Err-compress.ensures.reads
+    (turns_behind g.V.Device.faults g.G.Told.plan g.G.Told.draws f a c.requires.distributed c.drain.new.floor (Ok c.in_default.field-0) c.in_default.ensures.ends)
+    (c.in_default.ensures.reads (turns_are g.V.Device.faults g.G.Told.plan g.G.Told.draws f a c.requires.distributed) gave)))

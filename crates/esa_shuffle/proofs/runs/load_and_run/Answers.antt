@@ -1,22 +1,24 @@
 -- The attempts end the run after the load, or the load does.
-use Rattle.std.proofs.Common.{◌≡◌, ◌≢◌, true, false, ℕ, ◌*◌, [], ◌∷◌, ◌++◌, All, length, arith, refl, sym, ap, ◌∙◌, subst}
+use Rattle.std.proofs.Common.{◌≡◌, ◌≢◌, true, false, ℕ, ◌*◌, [], ◌∷◌, ◌++◌, All, length, Ok, Err, arith, refl, sym, ap, ◌∙◌, subst}
 use Rattle.esa_params.specs.Form.{envelope_length}
 use Rattle.esa_params.specs.Sizes.{Sizes, first}
 use Rattle.esa_floor.specs.Parts.{Parts}
-use Rattle.esa_floor.specs.Written.{IsOfInput}
+use Rattle.esa_floor.specs.Written.{WritesInput}
 use Rattle.esa_spec.specs.Histories.{begun}
 use Rattle.esa_model.specs.Forecast.{made}
-use Rattle.esa_shuffle.specs.Loading.{HasGiven, TakesInput}
+use Rattle.esa_shuffle.specs.Loading.{HasGiven, TakesBatch}
 use Rattle.esa_shuffle.specs.Runs.{MayEnd}
+use Rattle.esa_shuffle.proofs.Ending.{may_front}
+use Rattle.esa_shuffle.proofs.Inputs.{written_by}
 use Rattle.esa_shuffle.proofs.Loaded.{given_where}
-use Rattle.esa_shuffle.proofs.Records.{not_shuffled, shuffled_from}
+use Rattle.esa_shuffle.proofs.Records.{not_shuffled, shuffled_from, written_from}
 use Rattle.esa_shuffle.proofs.runs.load_and_run.Goals as goal
 
 pub returns-in-Ok-clause-ends : goal.returns-in-Ok-clause-ends
 returns-in-Ok-clause-ends g c =
     let before = g.R.Records.faults c.args.batch.now in
-    subst (λ (n : ℕ). MayEnd g.V.Device.faults g.G.Told.plan g.G.Told.draws (made g.G.Told.plan g.G.Told.draws c.args.turns.now) before n c.make_attempts.new.floor c.make_attempts.new.failures c.make_attempts.result)
-    (sym c.in-Ok.ensures.ends.1) (c.make_attempts.ensures.ends before)
+    subst (λ (n : ℕ). MayEnd g.V.Device.faults g.G.Told.plan g.G.Told.draws (made g.G.Told.plan g.G.Told.draws c.args.turns.now) before n c.make_attempts-outcome.new.floor c.make_attempts-outcome.new.failures c.make_attempts-outcome.result)
+    (sym c.in-Ok.ensures.ends.1) (c.make_attempts-outcome.ensures.ends before)
 
 pub returns-in-Ok-clause-given : goal.returns-in-Ok-clause-given
 returns-in-Ok-clause-given g c =
@@ -28,16 +30,22 @@ returns-in-Ok-clause-given g c =
     let part = g.R.Records.part (g.R.Records.grounds c.args.batch.now) in
     let before = g.R.Records.heard c.args.batch.now in
     let after = g.R.Records.heard c.load.new.batch in
-    let last = c.make_attempts.new.floor in
-    let o = c.make_attempts.result in
-    let has = subst (λ (q : Sizes). HasGiven q told part before after (true ≡ true) (TakesInput c.load.new.floor)) c.requires.new.stands.of.plan c.in-Ok.ensures.given in
+    let last = c.make_attempts-outcome.new.floor in
+    let o = c.make_attempts-outcome.result in
+    let has = subst (λ (q : Sizes). HasGiven q told part before after (true ≡ true) (TakesBatch f c.load.new.floor (Ok tt))) c.requires.new.stands.of.plan c.in-Ok.ensures.given in
     record {
       given = has.given;
       load = given_where p told part before after (true ≡ true) (last.history ≢ []) has.given (λ _. refl) has.load;
       became = shuffled_from p ds hs f.outer f.run c.load.new.floor last o has.given (ap (λ (x : Parts _). x.plan) c.load.ensures.floor ∙ c.requires.new.stands.of.plan)
-          (ap (λ (x : Parts _). x.outer) c.load.ensures.floor) (ap (λ (x : Parts _). x.run) c.load.ensures.floor) c.make_attempts.ensures.origin
-          (has.load.bytes ∙ ap (λ (n : ℕ). envelope_length p.form * first p n) (has.load.whole refl)) c.make_attempts.ensures.log has.became
-          c.make_attempts.ensures.outputs c.make_attempts.ensures.input c.make_attempts.ensures.took (c.load.ensures.input c.requires.log) (c.make_attempts.ensures.writes (c.in-Ok.ensures.writes c.requires.log));
+          (ap (λ (x : Parts _). x.outer) c.load.ensures.floor) (ap (λ (x : Parts _). x.run) c.load.ensures.floor) c.make_attempts-outcome.ensures.origin
+          (has.load.bytes ∙ ap (λ (n : ℕ). envelope_length p.form * first p n) (has.load.whole refl)) c.make_attempts-outcome.ensures.log has.became.input
+          c.make_attempts-outcome.ensures.outputs c.make_attempts-outcome.ensures.input c.make_attempts-outcome.ensures.took (c.load.ensures.input c.requires.log) (c.make_attempts-outcome.ensures.writes (c.in-Ok.ensures.writes c.requires.log))
+          c.make_attempts-outcome.ensures.reads
+          (written_from p ds hs f.outer f.run c.load.new.floor last o has.given (ap (λ (x : Parts _). x.plan) c.load.ensures.floor ∙ c.requires.new.stands.of.plan)
+          (ap (λ (x : Parts _). x.outer) c.load.ensures.floor) (ap (λ (x : Parts _). x.run) c.load.ensures.floor) c.make_attempts-outcome.ensures.origin
+          (has.load.bytes ∙ ap (λ (n : ℕ). envelope_length p.form * first p n) (has.load.whole refl)) c.make_attempts-outcome.ensures.log has.became.input
+          f tt has.became c.requires.log c.keeps_its_log.ensures
+          (may_front g.V.Device.faults p ds hs 0 0 last c.make_attempts-outcome.new.failures o (c.make_attempts-outcome.ensures.ends 0)));
     }
 
 pub returns-in-Err-clause-given : goal.returns-in-Err-clause-given
@@ -49,13 +57,15 @@ returns-in-Err-clause-given g c =
     let part = g.R.Records.part (g.R.Records.grounds c.args.batch.now) in
     let before = g.R.Records.heard c.args.batch.now in
     let after = g.R.Records.heard c.load.new.batch in
-    let has = subst (λ (q : Sizes). HasGiven q told part before after (false ≡ true) (λ bytes. Unit {0})) c.requires.new.stands.of.plan c.in-Err.ensures.given in
+    let has = subst (λ (q : Sizes). HasGiven q told part before after (false ≡ true) (TakesBatch {T = Unit {0}} f c.load.new.floor (Err c.in-Err.outcome))) c.requires.new.stands.of.plan c.in-Err.ensures.given in
     record {
       given = has.given;
       load = given_where p told part before after (false ≡ true) (c.load.new.floor.history ≢ []) has.given
           (λ some. absurd (some (ap (λ (x : Parts _). x.history) c.load.ensures.floor ∙ c.requires.new.history))) has.load;
       became = not_shuffled p ds (made p ds c.args.turns.now) f.outer f.run (c.load.new.floor.history ++ p.workers ∷ []) c.load.new.floor.recorder.log c.in-Err.outcome has.given c.in-Err.ensures.ends.2
-          (subst (λ (q : Sizes). All (IsOfInput q) c.load.new.floor.recorder.log) (ap (λ (x : Parts _). x.plan) c.load.ensures.floor ∙ c.requires.new.stands.of.plan) (c.load.ensures.input c.requires.log)) (c.in-Err.ensures.writes c.requires.log);
+          (subst (λ (q : Sizes). All (WritesInput q) c.load.new.floor.recorder.log) (ap (λ (x : Parts _). x.plan) c.load.ensures.floor ∙ c.requires.new.stands.of.plan) (c.load.ensures.input c.requires.log)) (c.in-Err.ensures.writes c.requires.log)
+          (written_by c.load.new.floor.plan p c.load.new.floor.run f.run has.given c.load.new.floor.recorder.log (ap (λ (x : Parts _). x.plan) c.load.ensures.floor ∙ c.requires.new.stands.of.plan)
+          (ap (λ (x : Parts _). x.run) c.load.ensures.floor) (has.became.written c.requires.log));
     }
 
 pub load-requires-clause-new : goal.load-requires-clause-new

@@ -11,7 +11,8 @@ use Rattle.esa_ending.specs.Seen.{verdict_in}
 use Rattle.esa_floor.specs.declared.floor.Roots.{Roots}
 use Rattle.esa_floor.specs.declared.turn.Outcome.{Outcome}
 use Rattle.esa_model.specs.Forecast.{handed_in, made, made_in}
-use Rattle.esa_shuffle.specs.Attempts.{AddsAttempt}
+use Rattle.esa_floor.specs.Parts.{Parts}
+use Rattle.esa_shuffle.specs.Attempts.{AddsAttempt, StopsShort}
 use Rattle.esa_shuffle.specs.Runs.{MayEnd, entries_before}
 use Rattle.esa_shuffle.proofs.Running.{IsBefore, ends_cut, ends_good, leads_on, room_for}
 use Rattle.esa_shuffle.proofs.Taking.{All-full, workers_at}
@@ -22,12 +23,13 @@ use Rattle.esa_envelope.specs.declared.keys.Keys.{Keys}
 use Rattle.esa_params.specs.Slots.{item_length}
 use Rattle.esa_ending.specs.Seen.{turns_in}
 use Rattle.esa_ending.proofs.FrontLaws.{onward}
-use Rattle.esa_floor.specs.Written.{AreItems}
+use Rattle.esa_floor.specs.Written.{AreItems, GaveItsOwn}
 use Rattle.esa_press.specs.Contents.{AreOutputsStored}
 use Rattle.esa_shuffle.proofs.Contents.{faithful_before}
 use Rattle.esa_shuffle.proofs.Stopped.{good_is}
+use Rattle.esa_shuffle.proofs.Giving.{cut_gave}
 use Rattle.esa_shuffle.proofs.Taken.{cut_short, cut_writes}
-use Rattle.esa_shuffle.specs.Records.{WritesOf}
+use Rattle.esa_shuffle.specs.Records.{ReadsOf, WritesOf}
 use Rattle.esa_shuffle.proofs.runs.make_attempts.Goals as goal
 
 -- the turns that an attempt adds are those of its list, completed
@@ -36,6 +38,12 @@ added_in : (p q : Sizes) (ds : ℕ → Draw) (turns : List (List ℕ)) (a : ℕ)
 added_in p q ds turns a list old new result same is added =
     subst (λ (l : List ℕ). AddsAttempt p (full p (ds a) l) old new result) is
     (subst (λ (x : Sizes). AddsAttempt x (full x (ds a) list) old new result) same added)
+
+short_in : {V : Type 0} (p q : Sizes) (ds : ℕ → Draw) (turns : List (List ℕ)) (a : ℕ) (list : List ℕ) (g : Parts V) (result : Result Verdict VaultFault) → q ≡ p → list ≡ handed_in turns a
+    → StopsShort q a (full q (ds a) list) g result → StopsShort p a (made_in p ds turns a) g result
+short_in p q ds turns a list g result same is short =
+    subst (λ (l : List ℕ). StopsShort p a (full p (ds a) l) g result) is
+    (subst (λ (x : Sizes). StopsShort x a (full x (ds a) list) g result) same short)
 
 pub make_attempt-requires-clause-room : goal.make_attempt-requires-clause-room
 make_attempt-requires-clause-room g c =
@@ -88,6 +96,7 @@ returns-in-Err-clause-ends g c =
     (ends_cut g.V.Device.faults p ds turns a f c.make_attempt.new.floor c.loop-attempt.failures inv.before inside (ap (λ (r : Roots). r.plan) c.make_attempt.ensures.origin ∙ inv.before.plan)
     (All-full p (ds a) (handed_in turns a) (workers_at p.workers turns a c.requires.numbers)) c.in-Err.fault
     (added_in p f.plan ds turns a c.list.result.now f.history c.make_attempt.new.floor.history (Err c.in-Err.fault) inv.before.plan c.list.ensures.value c.in-Err.ensures.history)
+    (short_in p f.plan ds turns a c.list.result.now c.make_attempt.new.floor (Err c.in-Err.fault) inv.before.plan c.list.ensures.value c.in-Err.ensures.behind)
     c.in-Err.ensures.ends)
 
 pub loop-attempt-preserved : goal.loop-attempt-preserved
@@ -117,6 +126,7 @@ loop-attempt-preserved g c =
           (inv.input record_of (faithful_before p f.recorder.log c.make_attempt.new.floor.recorder.log done.log faithful) input);
       took = λ record_of items took. done.took record_of (subst (λ (q : Sizes). AreItems (item_length q.form) record_of) (sym inv.before.plan) items) (inv.took record_of items took);
       writes = λ none. c.in-Ok.ensures.writes (inv.writes none);
+      reads = λ gave. c.in-Ok.ensures.reads (inv.reads gave);
       origin = done.origin ∙ inv.origin;
     }
 
@@ -181,3 +191,18 @@ pub returns-in-Err-clause-writes : goal.returns-in-Err-clause-writes
 returns-in-Err-clause-writes g c = λ none.
     subst (λ (o : Outcome). WritesOf o c.make_attempt.new.floor.recorder.log) (sym c.outcome_by.ensures)
     (cut_writes c.in-Err.fault c.make_attempt.new.floor.recorder.log (c.in-Err.ensures.writes (c.loop-attempt.invariant.writes none)))
+
+pub returns-then-is_good-clause-reads : goal.returns-then-is_good-clause-reads
+returns-then-is_good-clause-reads g c = λ gave. c.in-Ok.ensures.reads (c.loop-attempt.invariant.reads gave)
+
+pub returns-in-Err-clause-reads : goal.returns-in-Err-clause-reads
+returns-in-Err-clause-reads g c = λ gave.
+    let new = c.make_attempt.new.floor in
+    subst (λ (o : Outcome). ReadsOf (GaveItsOwn g.G.Told.draws new) o new.recorder.log) (sym c.outcome_by.ensures)
+    (cut_gave (GaveItsOwn g.G.Told.draws new) c.in-Err.fault new.recorder.log (c.in-Err.ensures.reads (c.loop-attempt.invariant.reads gave)))
+
+pub returns-clause-reads : goal.returns-clause-reads
+returns-clause-reads g c = c.loop-attempt.invariant.reads
+
+pub returns-then-is_good-clause-writes : goal.returns-then-is_good-clause-writes
+returns-then-is_good-clause-writes g c = λ none. c.in-Ok.ensures.writes (c.loop-attempt.invariant.writes none)

@@ -40,6 +40,7 @@ returns-clause-kept g c =
       slots = t.slots keeps.chunks c.requires.kept.slots;
       took = λ record_of items. t.took record_of keeps.chunks (c.requires.kept.took record_of items);
       writes = t.writes c.requires.kept.writes;
+      reads = t.reads c.requires.kept.reads;
     }
 
 pub returns-clause-trail : goal.returns-clause-trail

@@ -6,6 +6,7 @@ use Rattle.esa_params.specs.declared.slot.Access.{Access}
 use Rattle.esa_spec.specs.Traces.{asked}
 use Rattle.esa_spec.specs.declared.event.Event.{Event}
 use Rattle.esa_device.specs.Logs.{Carried}
+use Rattle.esa_floor.specs.Acts.{StopsBy}
 use Rattle.esa_floor.specs.Keeping.{Deals, Leaves}
 use Rattle.esa_floor.specs.Logging.{noted_of}
 use Rattle.esa_floor.specs.Parts.{Parts}
@@ -150,3 +151,31 @@ returns-then-bucket-b-clause-leaves g c = λ runs.
 
 pub returns-then-phase-eq0-clause-failed : goal.returns-then-phase-eq0-clause-failed
 returns-then-phase-eq0-clause-failed g c = λ failed. ap (λ (x : Parts _). x.stash) c.claim.ensures.floor
+
+pub returns-then-phase-eq0-clause-reads : goal.returns-then-phase-eq0-clause-reads
+returns-then-phase-eq0-clause-reads g c =
+    let f = c.args.self.now in
+    let w = c.args.worker.now in
+    let new = c.claim.new.self in
+    let first = c.requires.phase ∙ sym c.phase.ensures ∙ c.if-phase-eq0.true in
+    at_first f.plan.b (turns_made f) w.number
+    (λ (e : Event). StopsBy f.plan f.run (attempt_begun f) e new.recorder.last (g.V.Device.faults f.recorder.device) (g.V.Device.faults new.recorder.device) new.stop)
+    (λ j. tt) tt first
+
+pub returns-then-bucket-b-clause-reads : goal.returns-then-bucket-b-clause-reads
+returns-then-bucket-b-clause-reads g c =
+    let f = c.args.self.now in
+    let w = c.args.worker.now in
+    let b_is : c.b.result ≡ f.plan.b = c.b.ensures.value ∙ ap (λ (p : Sizes). p.b) (c.plan.ensures ∙ ap (λ (f : Parts _). f.plan) c.self.view_is) in
+    let phase_is = c.phase.ensures in
+    let bucket_is = c.bucket.ensures in
+    let none = c.if-bucket-b.true in
+    let later = c.if-phase-eq0.false in
+    let more : w.phase ≢ 0 = λ first. absurd (omega (arith, phase_is, later, first)) in
+    let held_is = c.requires.held more in
+    let idle = next_is_idle f.plan.b (turns_made f) w.number (λ first. more (sym c.requires.phase ∙ first)) (omega (arith, held_is, bucket_is, b_is, none)) in
+    subst (λ (e : Event). StopsBy f.plan f.run (attempt_begun f) e f.recorder.last (g.V.Device.faults f.recorder.device) (g.V.Device.faults f.recorder.device) f.stop)
+    (sym idle) tt
+
+pub returns-clause-reads : goal.returns-clause-reads
+returns-clause-reads g c = c.go_on.ensures.reads

@@ -5,6 +5,7 @@ use Rattle.esa_params.specs.Sizes.{Sizes}
 use Rattle.esa_spec.specs.Traces.{asked}
 use Rattle.esa_spec.specs.declared.event.Event.{Event}
 use Rattle.esa_spec.specs.declared.event.Event.TheVariants.{Write}
+use Rattle.esa_floor.specs.Acts.{StopsBy}
 use Rattle.esa_floor.specs.Keeping.{Deals, Leaves}
 use Rattle.esa_floor.specs.Logging.{noted_of}
 use Rattle.esa_floor.specs.Parts.{Parts}
@@ -197,3 +198,34 @@ returns-then-phase-eq1-clause-failed g c = λ failed. ap (λ (x : Parts _). x.st
 
 pub returns-clause-failed : goal.returns-clause-failed
 returns-clause-failed g c = λ failed. ap (λ (x : Parts _). x.stash) c.write.ensures.floor
+
+pub returns-then-phase-eq1-clause-reads : goal.returns-then-phase-eq1-clause-reads
+returns-then-phase-eq1-clause-reads g c =
+    let f = c.args.self.now in
+    let w = c.args.worker.now in
+    let new = c.read.new.self in
+    let first = c.requires.phase ∙ sym c.phase-phase.ensures ∙ c.if-phase-eq1.true in
+    subst (λ (e : Event). StopsBy f.plan f.run (attempt_begun f) e new.recorder.last (g.V.Device.faults f.recorder.device) (g.V.Device.faults new.recorder.device) new.stop)
+    (sym (next_reads f.plan.b (turns_made f) w.number w.bucket c.requires.held c.requires.bucket first)) c.read.ensures.reads
+
+pub returns-then-phase-eq2-clause-reads : goal.returns-then-phase-eq2-clause-reads
+returns-then-phase-eq2-clause-reads g c =
+    let f = c.args.self.now in
+    let w = c.args.worker.now in
+    let new = c.exchange.new.self in
+    let second = c.requires.phase ∙ sym c.phase-phase.ensures ∙ c.if-phase-eq2.true in
+    subst (λ (e : Event). StopsBy f.plan f.run (attempt_begun f) e new.recorder.last (g.V.Device.faults f.recorder.device) (g.V.Device.faults new.recorder.device) new.stop)
+    (sym (next_exchanges f.plan.b (turns_made f) w.number w.bucket c.requires.held c.requires.bucket second)) tt
+
+pub returns-clause-reads : goal.returns-clause-reads
+returns-clause-reads g c =
+    let f = c.args.self.now in
+    let w = c.args.worker.now in
+    let new = c.write.new.self in
+    let is = c.phase-phase.ensures in
+    let first = c.if-phase-eq1.false in
+    let second = c.if-phase-eq2.false in
+    let later = c.requires.later in
+    let phase = c.requires.phase in
+    subst (λ (e : Event). StopsBy f.plan f.run (attempt_begun f) e new.recorder.last (g.V.Device.faults f.recorder.device) (g.V.Device.faults new.recorder.device) new.stop)
+    (sym (next_writes f.plan.b (turns_made f) w.number w.bucket c.requires.held c.requires.bucket (omega (arith, phase, is, first, second, later)))) tt

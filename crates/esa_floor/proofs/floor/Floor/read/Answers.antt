@@ -3,10 +3,13 @@ use Rattle.std.proofs.Common.{◌≢◌, ℕ, Option, None, sym, ap, ◌∙◌, 
 use Rattle.esa_device.specs.Recording.{Recorded}
 use Rattle.esa_envelope.specs.declared.keys.Keys.{Keys}
 use Rattle.esa_params.specs.Sizes.{Sizes}
+use Rattle.esa_params.specs.Slots.{at, number_of}
+use Rattle.esa_params.specs.declared.slot.Region.TheVariants.{Input}
 use Rattle.esa_spec.specs.Turns.{next_phase}
 use Rattle.esa_spec.specs.declared.event.Event.{Event}
 use Rattle.esa_spec.specs.declared.event.Event.TheVariants.{Read}
-use Rattle.esa_floor.specs.Acts.{answer_of}
+use Rattle.esa_vault.specs.Seals.{opens}
+use Rattle.esa_floor.specs.Acts.{StopsReading, answer_of}
 use Rattle.esa_floor.specs.Keeping.{OpensTo}
 use Rattle.esa_floor.specs.Parts.{Parts}
 use Rattle.esa_floor.specs.Standing.{attempt_begun, turns_made}
@@ -46,3 +49,16 @@ returns-clause-opened g c = λ runs.
     (subst (λ (o : Option ℕ). OpensTo w.buffers.plan w.run (attempt_in o) w.bucket text f.recorder new) c.requires.attempt
     (subst (λ (r : Recorded _). OpensTo w.buffers.plan w.run (attempt_in w.attempt) w.bucket text r new) (ap (λ (x : Parts _). x.recorder) c.self.view_is)
     (c.read-self-inside.ensures.opened runs))))
+
+pub returns-clause-reads : goal.returns-clause-reads
+returns-clause-reads g c =
+    let f = c.args.self.now in
+    let w = c.args.worker.now in
+    let new = c.read-self-inside.new.recorder in
+    let faults = g.V.Device.faults in
+    let s = c.read-self-inside.result in
+    subst (λ (p : Sizes). StopsReading (number_of p (at Input w.bucket)) (opens p f.run (at Input w.bucket) (attempt_begun f) 0 new.last) (faults f.recorder.device) (faults new.device) s) c.requires.plan
+    (subst (λ (k : Keys). StopsReading (number_of w.buffers.plan (at Input w.bucket)) (opens w.buffers.plan k (at Input w.bucket) (attempt_begun f) 0 new.last) (faults f.recorder.device) (faults new.device) s) c.requires.run
+    (subst (λ (o : Option ℕ). StopsReading (number_of w.buffers.plan (at Input w.bucket)) (opens w.buffers.plan w.run (at Input w.bucket) (attempt_in o) 0 new.last) (faults f.recorder.device) (faults new.device) s) c.requires.attempt
+    (subst (λ (r : Recorded _). StopsReading (number_of w.buffers.plan (at Input w.bucket)) (opens w.buffers.plan w.run (at Input w.bucket) (attempt_in w.attempt) 0 new.last) (faults r.device) (faults new.device) s)
+    (ap (λ (x : Parts _). x.recorder) c.self.view_is) c.read-self-inside.ensures.stops)))

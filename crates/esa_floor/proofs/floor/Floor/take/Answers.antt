@@ -117,3 +117,16 @@ returns-in-Some-clause-stops g c = λ some runs stopped.
 
 pub returns-in-None-clause-failed : goal.returns-in-None-clause-failed
 returns-in-None-clause-failed g c = c.act.ensures.failed
+
+pub returns-in-None-clause-reads : goal.returns-in-None-clause-reads
+returns-in-None-clause-reads g c = λ some runs. c.act.ensures.reads
+
+pub returns-then-is_none-clause-reads : goal.returns-then-is_none-clause-reads
+returns-then-is_none-clause-reads g c = λ some runs.
+    let none : c.args.self.now.attempt ≡ None = search rules in
+    absurd (some none)
+
+pub returns-in-Some-clause-reads : goal.returns-in-Some-clause-reads
+returns-in-Some-clause-reads g c = λ some runs.
+    let is : c.args.self.now.stop ≡ Some c.in-Some.stop = sym (ap (λ (x : Parts _). x.stop) c.self.view_is) ∙ c.in-Some.is in
+    absurd (none_or_some c.in-Some.stop (sym is ∙ runs))

@@ -5,9 +5,10 @@ use Rattle.esa_floor.specs.Keeping.{HoldsAfter, HoldsChunks, HoldsRecords, Queue
 use Rattle.esa_floor.specs.Parts.{Parts}
 use Rattle.esa_floor.specs.Standing.{attempt_begun, turns_made}
 use Rattle.esa_floor.specs.Working.{Working}
-use Rattle.esa_floor.specs.Written.{EachTookItsBlock, WritesFailed}
+use Rattle.esa_floor.specs.Written.{EachTookItsBlock, ReadsGaveTheirBlocks, WritesFailed}
 use Rattle.esa_floor.proofs.Chunking.{chunks_on, others_on as others_hold_on}
 use Rattle.esa_floor.proofs.Failing.{failed_turn}
+use Rattle.esa_floor.proofs.Giving.{gave_turn}
 use Rattle.esa_floor.proofs.Queueing.{held_on, queues_on}
 use Rattle.esa_floor.proofs.Resting.{begun_on, mark_grows, others_on}
 use Rattle.esa_floor.proofs.Stopping.{holds_after, holds_still, queues_after, slots_after, stops_on}
@@ -282,3 +283,20 @@ returns-clause-writes g c =
     let turn = c.take-turn.ensures in
     subst (λ (x : Parts _). WritesFailed f.stop f.recorder.log → WritesFailed x.stop x.recorder.log) (sym c.self.view_is)
     (failed_turn f c.take-turn.new.self w.run (attempt_begun f) (next f.plan.b (turns_made f) w.number) w.buffers.chunks turn.idle turn.later turn.log)
+
+pub returns-clause-reads : goal.returns-clause-reads
+returns-clause-reads g c = λ before.
+    let f = c.args.self.now in
+    let w = c.args.worker.now in
+    let few = c.requires.of.number in
+    let worker : w.number ≢ f.plan.workers = λ same. absurd (omega (arith, same, few)) in
+    let turn = c.take-turn.ensures in
+    let new = c.take-turn.new.self in
+    let room = c.push_reserved.new.self.cap in
+    let longer : c.push_reserved.new.self.items ≡ f.history ++ w.number ∷ [] =
+    c.push_reserved.ensures.items ∙ ap (λ (xs : List ℕ). xs ++ c.number.result ∷ []) (ap (λ (x : Parts _). x.history) (c.self.view_is ∙ turn.kept))
+    ∙ ap (λ (k : ℕ). f.history ++ k ∷ []) (c.number.ensures ∙ ap (λ (x : Working _). x.number) turn.moved) in
+    let is = ap (λ (xs : List ℕ). record new { history = xs; room = room }) (sym longer)
+    ∙ ap (λ (x : Parts _). record x { history = c.push_reserved.new.self.items; room = room }) (sym c.self.view_is) in
+    subst (λ (x : Parts _). ReadsGaveTheirBlocks g.G.Told.draws x) is
+    (gave_turn f new w.number room w.run w.buffers.chunks g.V.Device.faults g.G.Told.draws worker turn.kept turn.idle turn.later turn.log turn.reads before)

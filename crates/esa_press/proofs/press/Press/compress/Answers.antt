@@ -16,7 +16,7 @@ use Rattle.esa_press.proofs.Storing.{input_pressed, pressing_faithful, pressing_
 use Rattle.esa_press.proofs.Fetching.{reads_none}
 use Rattle.esa_press.specs.Contents.{ArePut, PutsWaiting}
 use Rattle.std.proofs.Math.Seq.{drop-nil}
-use Rattle.esa_floor.specs.Written.{EachTookItsBlock}
+use Rattle.esa_floor.specs.Written.{EachTookItsBlock, attempt_turns}
 use Rattle.esa_press.proofs.Taking.{took_put, took_put_until}
 use Rattle.esa_press.proofs.press.Press.compress.Goals as goal
 
@@ -39,6 +39,7 @@ loop-output-init g c =
       made = made_none g.V.Device.faults f.plan f.run d c.args.attempt (order f.plan.b (turns_made f)) f.recorder tt;
       log = pressing_read f.recorder.log f.recorder.log (reads_none f.recorder.log);
       writes = λ none. none;
+      reads = λ made gave. gave;
       puts = λ record_of orders holds faithful. (
         put_none f.plan f.run d (turns_made f) c.args.attempt record_of f.recorder.log,
         ap (λ (w : Pressed). w.queue) c.clear.ensures ∙ sym (ap (map record_of) (drop-nil (first f.plan 0))),
@@ -186,6 +187,7 @@ loop-output-preserved g c =
           c.in_default.ensures.made);
       log = pressing_then f.recorder.log old.log new.log inv.log c.put_out.ensures.log;
       writes = λ none. c.in_default.ensures.writes (inv.writes none);
+      reads = λ made gave. c.in_default.ensures.reads (subst (λ (x : Parts _). attempt_turns x a ≡ turns_made x) (sym inv.floor) made) (inv.reads made gave);
       puts = λ record_of orders holds faithful.
           let one : PutsWaiting {T = Unit {0}} p f.run d h a lists record_of j c.loop-output.from c.min-end.result f.recorder.log old.log new.log c.loop-output.self.queue c.put_out.new.self.queue (Ok tt) =
           subst (λ (x : Parts _). PutsWaiting {T = Unit {0}} x.plan x.run d (turns_made x) a lists record_of j c.loop-output.from c.min-end.result f.recorder.log old.log new.log c.loop-output.self.queue c.put_out.new.self.queue (Ok tt))
@@ -199,3 +201,11 @@ returns-in-Err-clause-writes g c = λ none. c.in-Err.ensures.writes (c.loop-outp
 
 pub returns-clause-writes : goal.returns-clause-writes
 returns-clause-writes g c = c.loop-output.invariant.writes
+
+pub returns-in-Err-clause-reads : goal.returns-in-Err-clause-reads
+returns-in-Err-clause-reads g c = λ made gave.
+    let inv = c.loop-output.invariant in
+    c.in-Err.ensures.reads (subst (λ (x : Parts _). attempt_turns x c.args.attempt ≡ turns_made x) (sym inv.floor) made) (inv.reads made gave)
+
+pub returns-clause-reads : goal.returns-clause-reads
+returns-clause-reads g c = c.loop-output.invariant.reads

@@ -13,6 +13,7 @@ use Rattle.esa_press.specs.Drained.{AreDrained}
 use Rattle.esa_press.specs.Pressed.{Pressed}
 use Rattle.esa_press.proofs.Draining.{all_queued, all_waits, counted_then, drain_ends, drained_more, drained_none, none_passes, none_left, noted_more}
 use Rattle.esa_press.proofs.Failing.{drained_ends}
+use Rattle.esa_press.proofs.Giving.{drained_gave}
 use Rattle.esa_press.proofs.Storing.{chunks_stay, input_drained, tails_stored}
 use Rattle.esa_press.proofs.Taking.{took_drained}
 use Rattle.esa_press.proofs.press.Press.drain.Goals as goal
@@ -160,3 +161,13 @@ pub returns-in-Err-clause-writes : goal.returns-in-Err-clause-writes
 returns-in-Err-clause-writes g c =
     let f = c.args.floor.now in
     drained_ends g.V.Device.faults c.args.attempt f (g.G.Told.draws c.args.attempt) (order f.plan.b (turns_made f)) c.drain_one.new.floor (Err c.in-Err.halt) (returns-in-Err-clause-ends g c)
+
+pub returns-clause-reads : goal.returns-clause-reads
+returns-clause-reads g c = λ made gave.
+    let f = c.args.floor.now in
+    drained_gave g.G.Told.draws g.V.Device.faults c.args.attempt f (g.G.Told.draws c.args.attempt) (order f.plan.b (turns_made f)) gave c.loop-target.floor (Ok tt) (returns-clause-ends g c)
+
+pub returns-in-Err-clause-reads : goal.returns-in-Err-clause-reads
+returns-in-Err-clause-reads g c = λ made gave.
+    let f = c.args.floor.now in
+    drained_gave g.G.Told.draws g.V.Device.faults c.args.attempt f (g.G.Told.draws c.args.attempt) (order f.plan.b (turns_made f)) gave c.drain_one.new.floor (Err c.in-Err.halt) (returns-in-Err-clause-ends g c)

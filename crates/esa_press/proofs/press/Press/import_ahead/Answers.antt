@@ -4,6 +4,7 @@ use Rattle.std.proofs.Math.Nat.{mul-le-mul_right}
 use Rattle.esa_compress.proofs.ImportLaws.{climbs}
 use Rattle.esa_floor.specs.Parts.{Parts}
 use Rattle.esa_floor.specs.Standing.{turns_made}
+use Rattle.esa_floor.specs.Written.{attempt_turns}
 use Rattle.esa_params.specs.Sizes.{Sizes, first}
 use Rattle.esa_spec.specs.Turns.{order}
 use Rattle.esa_spec.specs.Verdicts.{Import, reached}
@@ -59,6 +60,7 @@ loop-target-init g c =
       made = subst (λ (n : ℕ). AreMade {T = Unit {0}} g.V.Device.faults f.plan f.run d (order f.plan.b (turns_made f)) c.args.attempt (map (Import c.args.output) (range_with_len c.args.from n)) f.recorder f.recorder (Ok tt))
           (sym none) (made_none g.V.Device.faults f.plan f.run d c.args.attempt (order f.plan.b (turns_made f)) f.recorder tt);
       log = reads_none f.recorder.log;
+      reads = λ made gave. gave;
       keeps = λ record_of planned orders holds faithful waits. waits;
     }
 
@@ -142,6 +144,7 @@ loop-target-preserved g c =
           (subst (λ (x : Parts _). AreMade {T = Unit {0}} g.V.Device.faults x.plan x.run d (order x.plan.b (turns_made x)) c.args.attempt (Import c.args.output t ∷ []) old new (Ok tt)) inv.floor
           c.in_default.ensures.made)));
       log = reads_then f.recorder.log old.log new.log inv.log c.import_target.ensures.log;
+      reads = λ made gave. c.in_default.ensures.reads (subst (λ (x : Parts _). attempt_turns x a ≡ turns_made x) (sym inv.floor) made) (inv.reads made gave);
       keeps = λ record_of planned orders holds faithful waits.
           let one : KeepsWaiting {T = Unit {0}} f.plan f.run d h a lists record_of c.args.output t (t + 1) old.log new.log c.loop-target.self.queue c.import_target.new.self.queue (Ok tt) =
           subst (λ (x : Parts _). KeepsWaiting {T = Unit {0}} x.plan x.run d (turns_made x) a lists record_of c.args.output t (t + 1) old.log new.log c.loop-target.self.queue c.import_target.new.self.queue (Ok tt))
@@ -157,3 +160,11 @@ returns-clause-made g c =
     let whole : c.loop-target.target - c.args.from ≡ c.args.end - c.args.from = omega (arith, c.loop-target-test.false, c.loop-target.auto.target-end, c.requires.from) in
     subst (λ (m : ℕ). AreMade {T = Unit {0}} g.V.Device.faults f.plan f.run d (order f.plan.b (turns_made f)) c.args.attempt (map (Import c.args.output) (range_with_len c.args.from m)) f.recorder c.loop-target.floor.recorder (Ok tt))
     whole c.loop-target.invariant.made
+
+pub returns-in-Err-clause-reads : goal.returns-in-Err-clause-reads
+returns-in-Err-clause-reads g c = λ made gave.
+    let inv = c.loop-target.invariant in
+    c.in-Err.ensures.reads (subst (λ (x : Parts _). attempt_turns x c.args.attempt ≡ turns_made x) (sym inv.floor) made) (inv.reads made gave)
+
+pub returns-clause-reads : goal.returns-clause-reads
+returns-clause-reads g c = c.loop-target.invariant.reads

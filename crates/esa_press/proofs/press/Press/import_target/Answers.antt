@@ -1,6 +1,7 @@
 use Rattle.std.proofs.Common.{◌++◌, OnOk, ◌≡◌, ◌+◌, ℕ, List, length, sum, ap, ◌∙◌, subst, arith, map}
 use Rattle.std.specs.Prelude.{slice_index}
 use Rattle.esa_floor.specs.Standing.{turns_made}
+use Rattle.esa_floor.specs.Written.{attempt_turns}
 use Rattle.esa_params.specs.Sizes.{Sizes}
 use Rattle.esa_device.specs.Recording.{Recorded}
 use Rattle.esa_press.specs.Pressed.{ImportAnswer, Pressed}
@@ -13,6 +14,7 @@ use Rattle.esa_press.specs.Records.{imported_items}
 use Rattle.esa_press.specs.Stepped.{parts_counted}
 use Rattle.esa_press.proofs.Counting.{parts_few, tail_few}
 use Rattle.esa_press.proofs.Fetching.{on_ok}
+use Rattle.esa_press.proofs.Giving.{import_gave}
 use Rattle.esa_press.proofs.Stepping.{import_keeps, import_logs, import_totals, import_made, waits_few, waits_more}
 use Rattle.esa_press.proofs.Storing.{are_stored, import_answer_is, import_kept}
 use Rattle.esa_spec.specs.Turns.{order}
@@ -140,3 +142,19 @@ returns-clause-keeps g c = λ record_of planned orders holds faithful waits.
     (returns-clause-gives g c (λ j. map record_of (chunk f.plan d (order f.plan.b h) (exchange_of (order f.plan.b h) j) i)) (map record_of (tail f.plan d (order f.plan.b h) i)) faithful
     (are_stored f.plan f.run d h f.counts c.args.self.now.tails a c.requires.at.counted record_of i c.requires.target f.recorder.log holds))
     waits
+
+pub returns-clause-reads : goal.returns-clause-reads
+returns-clause-reads g c = λ made gave.
+    let f = c.args.floor.now in
+    let w = c.count.new.self in
+    let i = c.args.target in
+    let a = c.args.attempt in
+    let parts = parts_counted f.plan f.counts c.args.self.now.tails i in
+    let plan_is : w.plan ≡ f.plan = ap (λ (x : Pressed). x.plan) c.count.ensures ∙ c.requires.at.plan in
+    let run_is : w.run ≡ f.run = ap (λ (x : Pressed). x.run) c.count.ensures ∙ c.requires.at.run in
+    let parts_are : w.counts ≡ parts = ap (λ (x : Pressed). x.counts) c.count.ensures ∙ ap (λ (q : Sizes). parts_counted q f.counts c.args.self.now.tails i) c.requires.at.plan in
+    let queue_is : w.queue ≡ c.args.self.now.queue = ap (λ (x : Pressed). x.queue) c.count.ensures in
+    import_gave f.plan f.run g.G.Told.draws (attempt_turns f) a (turns_made f) f.counts c.args.self.now.tails c.requires.at.counted i c.requires.target made
+    g.V.Device.faults c.args.self.now.queue f.recorder c.import.new.recorder gave c.import.result
+    (import_answer_is g.V.Device.faults a i w f.plan f.run parts c.args.self.now.queue plan_is run_is parts_are queue_is
+    c.recorder.result.now f.recorder c.import.new.recorder c.import.result c.recorder.ensures.value c.import.ensures.answer)

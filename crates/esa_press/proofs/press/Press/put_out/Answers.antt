@@ -1,4 +1,4 @@
-use Rattle.std.proofs.Common.{◌≡◌, ◌+◌, ◌-◌, ◌≤◌, ℕ, suc, [], ◌∷◌, ◌++◌, Err, map, sym, ap, ◌∙◌, subst, arith, length, take, drop}
+use Rattle.std.proofs.Common.{◌≡◌, ◌+◌, ◌-◌, ◌≤◌, ℕ, suc, [], ◌∷◌, ◌++◌, Err, All, map, sym, ap, ◌∙◌, subst, arith, length, take, drop}
 use Rattle.std.specs.List.{range_with_len}
 use Rattle.esa_compress.proofs.ImportLaws.{climbs, queue-front, queue-put}
 use Rattle.esa_floor.specs.Standing.{turns_made}
@@ -9,9 +9,11 @@ use Rattle.esa_device.specs.Recording.{Recorded}
 use Rattle.esa_envelope.specs.declared.keys.Keys.{Keys}
 use Rattle.esa_press.specs.Pressed.{Pressed, PutAnswer}
 use Rattle.esa_press.specs.Stepped.{AreMade}
-use Rattle.esa_floor.specs.Written.{NoWriteFailed}
+use Rattle.esa_floor.specs.Written.{GaveItsOwn, NoWriteFailed, attempt_turns}
+use Rattle.esa_floor.proofs.Giving.{gave-write}
 use Rattle.esa_press.proofs.Failing.{any_end, put_ends, reads_move}
 use Rattle.esa_press.proofs.Fetching.{on_ok}
+use Rattle.esa_press.proofs.Giving.{put_gave}
 use Rattle.esa_press.proofs.Stepping.{made_bad, made_more, put_one, put_totals, put_waits}
 use Rattle.esa_press.proofs.Storing.{holds_on, output_put, pressing_faithful, pressing_put, pressing_read, pressing_then, put_answer_is, put_read, stops_with}
 use Rattle.esa_press.specs.Contents.{GoesOnPressing}
@@ -145,3 +147,14 @@ returns-clause-writes g c = λ none.
     let still = reads_move c.args.floor.now.recorder.log mid.log c.import_ahead.ensures.log none in
     put_ends g.V.Device.told g.V.Device.faults g.V.Device.last_call w.plan w.run c.args.attempt c.args.output w.queue c.put.new.self.queue c.recorder.result.now c.put.new.recorder c.put.result c.put.ensures.answer
     (subst (λ (r : Recorded _). NoWriteFailed r.log) (sym c.recorder.ensures.value) still)
+
+pub returns-in-Err-clause-reads : goal.returns-in-Err-clause-reads
+returns-in-Err-clause-reads g c = c.in-Err.ensures.reads
+
+pub returns-clause-reads : goal.returns-clause-reads
+returns-clause-reads g c = λ made gave.
+    let w = c.import_ahead.new.self in
+    let mid = c.import_ahead.new.floor in
+    put_gave (GaveItsOwn g.G.Told.draws mid) (gave-write mid.plan mid.run g.G.Told.draws (attempt_turns mid))
+    g.V.Device.told g.V.Device.faults g.V.Device.last_call w.plan w.run c.args.attempt c.args.output w.queue c.put.new.self.queue c.recorder.result.now c.put.new.recorder c.put.result c.put.ensures.answer
+    (subst (λ (r : Recorded _). All (GaveItsOwn g.G.Told.draws mid) r.log) (sym c.recorder.ensures.value) (c.in_default.ensures.reads made gave))
