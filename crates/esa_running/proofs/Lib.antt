@@ -2,6 +2,7 @@ mod BatchSteps
 mod ComingOut
 mod Fitting
 mod Forwarded
+mod HandedIn
 mod Joining
 mod Modes
 mod Needed
