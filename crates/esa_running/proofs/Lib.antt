@@ -7,6 +7,7 @@ mod Joining
 mod Modes
 mod Needed
 mod RanEnds
+mod Replayed
 mod Rooms
 mod RunEnds
 mod ScanEnds

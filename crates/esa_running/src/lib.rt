@@ -17,7 +17,7 @@ mod taking;
 mod threaded;
 mod working;
 
-pub use handed_in::turns_can_be_handed_in_again;
+pub use handed_in::{crews_are_replayed, turns_can_be_handed_in_again};
 pub use input::{RunInput, take_run};
 pub use purpose::Purpose;
 pub use run_command::{Ended, run};
