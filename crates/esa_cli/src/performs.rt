@@ -1,4 +1,4 @@
-//! Who performs commands: one thread, or threads that can be started.
+//! Who performs the command intake: one thread, or threads that can be started.
 
 ghost use Rattle.std.specs.Prelude.{Bool, true, false};
 ghost use denote.Param.Send.{IsSync};
@@ -13,7 +13,7 @@ use std::alloc::Global;
 use std::sync::Wait;
 use std::thread::Threads;
 
-/// Performs what a job may ask a crew for.
+/// Performs the command without a device whose job may ask for a crew.
 pub(crate) trait Performs {
     /// What has to hold of it, so that it can.
     ghost ready: { Self → Type 0 };
@@ -35,7 +35,7 @@ pub(crate) trait Performs {
             (stand P.told P.faults P.heard printer.old) (stand P.told P.faults P.heard printer.new) result };
 }
 
-/// One thread, which performs all.
+/// One thread, which makes the batch by itself.
 #[derive(Clone, Copy)]
 pub(crate) struct OneThread;
 

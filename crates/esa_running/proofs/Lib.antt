@@ -2,10 +2,12 @@ mod BatchSteps
 mod ComingOut
 mod Fitting
 mod Forwarded
+mod HandedIn
 mod Joining
 mod Modes
 mod Needed
 mod RanEnds
+mod Replayed
 mod Rooms
 mod RunEnds
 mod ScanEnds

@@ -3,6 +3,7 @@
 
 mod ending;
 mod forwarding;
+mod handed_in;
 mod input;
 mod keys;
 mod outlet;
@@ -16,6 +17,7 @@ mod taking;
 mod threaded;
 mod working;
 
+pub use handed_in::{crews_are_replayed, turns_can_be_handed_in_again};
 pub use input::{RunInput, take_run};
 pub use purpose::Purpose;
 pub use run_command::{Ended, run};
