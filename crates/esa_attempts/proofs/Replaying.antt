@@ -3,42 +3,49 @@ use Rattle.std.proofs.Common.{◌≡◌, ◌≢◌, ℕ, ◌+◌, ◌*◌, ◌<�
 use Rattle.std.proofs.lemmas.List.{length-append, length-take}
 use Rattle.esa_laws.proofs.FinishLaws.{length-completed}
 use Rattle.esa_crew.proofs.Finishing.{begins_again, has_failed, is_over}
-use Rattle.esa_crew.specs.Posts.{AreMembers, ArePosts}
 use Rattle.esa_crew.specs.Replays.{IsReplayed}
 use Rattle.esa_floor.specs.Marks.{roots_of}
 use Rattle.esa_floor.specs.Parts.{Parts, begun_as}
 use Rattle.esa_floor.specs.Standing.{Stands, attempt_begun}
-use Rattle.esa_floor.specs.Working.{Working}
 use Rattle.esa_floor.specs.declared.floor.Roots.{Roots}
 use Rattle.esa_floor.specs.declared.turn.Stop.{Stop}
 use Rattle.esa_floor.proofs.Resting.{working}
-use Rattle.esa_params.specs.Sizes.{Sizes}
+use Rattle.esa_params.specs.Sizes.{ArePlanned, Sizes}
 use Rattle.esa_spec.specs.Completion.{completed, full, turns_needed}
 use Rattle.esa_spec.specs.Draws.{Draw}
-use Rattle.esa_shuffle.proofs.Taking.{members_on}
+use Rattle.esa_spec.specs.Histories.{begun}
+use Rattle.esa_shuffle.specs.Loading.{IsUnbegun}
+
+-- a floor f that was made as g, where g has done nothing
+pub made_unbegun : {V : Type 0} (faults : V → ℕ) (p plan : Sizes) (ds : ℕ → Draw) (f g : Parts V) → Stands faults p ds f → f ≡ g → ArePlanned plan → p ≡ plan
+    → g.history ≡ [] → 0 < g.room → g.outcome ≡ None → g.recorder.trace ≡ [] → faults g.recorder.device ≡ g.faults → IsUnbegun faults p ds f
+made_unbegun {V} faults p plan ds f g stands made planned same none some goes_on untouched calm = record {
+  stands = stands;
+  planned = subst ArePlanned (sym same) planned;
+  none_begun = ap (λ (x : Parts V). begun x.plan.workers x.history) made ∙ ap (begun g.plan.workers) none;
+  room = let empty = ap (λ (x : Parts V). length x.history) made ∙ ap length none in let room = ap (λ (x : Parts V). x.room) made in omega (arith, empty, room, some);
+  outcome = ap (λ (x : Parts V). x.outcome) made ∙ goes_on;
+  trace = ap (λ (x : Parts V). x.recorder.trace) made ∙ untouched;
+  calm = ap (λ (x : Parts V). faults x.recorder.device) made ∙ calm ∙ sym (ap (λ (x : Parts V). x.faults) made);
+}
 
 there : (o : Option ℕ) (a : ℕ) → o ≡ Some a → o ≢ None
 there o a e never = let clash : Some a ≡ None = sym e ∙ never in cc clash
 
 -- the attempt at work is the one that was begun last
-pub number_is : {V : Type 0} (faults : V → ℕ) (p : Sizes) (ds : ℕ → Draw) (f : Parts V) (a : ℕ) → Stands faults p ds f → f.attempt ≡ Some a → attempt_begun f ≡ a
+number_is : {V : Type 0} (faults : V → ℕ) (p : Sizes) (ds : ℕ → Draw) (f : Parts V) (a : ℕ) → Stands faults p ds f → f.attempt ≡ Some a → attempt_begun f ≡ a
 number_is faults p ds f a stands at =
     let both : Some (attempt_begun f) ≡ Some a = sym (working faults ds f f.outcome f.attempt stands.state (there f.attempt a at)).2 ∙ at in cc both
 
 -- and the run has not ended
-pub goes_on : {V : Type 0} (faults : V → ℕ) (p : Sizes) (ds : ℕ → Draw) (f : Parts V) (a : ℕ) → Stands faults p ds f → f.attempt ≡ Some a → f.outcome ≡ None
+goes_on : {V : Type 0} (faults : V → ℕ) (p : Sizes) (ds : ℕ → Draw) (f : Parts V) (a : ℕ) → Stands faults p ds f → f.attempt ≡ Some a → f.outcome ≡ None
 goes_on faults p ds f a stands at = (working faults ds f f.outcome f.attempt stands.state (there f.attempt a at)).0
 
 pub some_begun : {V : Type 0} (f : Parts V) (a : ℕ) → f.attempt ≡ Some a → f.attempt ≢ None
 some_begun f a at = there f.attempt a at
 
--- who stands at a post is a member
-pub members : {V C : Type 0} (ds : ℕ → Draw) (target_lists : C → ℕ → ℕ → List ℕ) (f : Parts V) (workers : List (Working C))
-    → ArePosts ds target_lists f workers → AreMembers ds target_lists f workers
-members ds target_lists f workers posts = members_on ds target_lists f f workers posts refl
-
 -- a replay takes no more turns than the completed list has
-pub few_taken : (p : Sizes) (d : Draw) (turns : List ℕ) (count : ℕ) → length (take count (full p d turns)) ≤ length turns + p.b * (p.b + 3) * p.workers
+few_taken : (p : Sizes) (d : Draw) (turns : List ℕ) (count : ℕ) → length (take count (full p d turns)) ≤ length turns + p.b * (p.b + 3) * p.workers
 few_taken p d turns count =
     let some = length-take count (full p d turns) in
     let whole = length-take (turns_needed p d (completed p turns)) (completed p turns) in

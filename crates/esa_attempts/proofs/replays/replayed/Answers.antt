@@ -1,29 +1,16 @@
 -- The floor that was made is new, and the workers that were made are its members.
-use Rattle.std.proofs.Common.{◌<◌, List, length, get_or, sym, ap, ◌∙◌, subst, arith}
-use Rattle.esa_params.specs.Sizes.{ArePlanned}
+use Rattle.std.proofs.Common.{◌<◌, List, length, get_or, refl, sym, ap, subst, arith}
 use Rattle.esa_floor.specs.Parts.{Parts}
 use Rattle.esa_floor.specs.Working.{Working}
 use Rattle.esa_crew.specs.Posts.{IsMember}
-use Rattle.esa_spec.specs.Histories.{begun}
 use Rattle.esa_shuffle.proofs.Taking.{is_member}
+use Rattle.esa_attempts.proofs.Replaying.{made_unbegun}
 use Rattle.esa_attempts.proofs.replays.replayed.Goals as goal
 
 pub load_and_replay-requires-clause-new : goal.load_and_replay-requires-clause-new
 load_and_replay-requires-clause-new g c =
-    let parts = c.in-Ok.ensures.parts in
-    record {
-      stands = c.in-Ok.ensures.stands;
-      planned = subst ArePlanned (sym c.requires.plan) c.most_entries-entries.ensures.planned;
-      none_begun = ap (λ (x : Parts _). begun x.plan.workers x.history) parts;
-      room =
-          let none = ap (λ (x : Parts _). length x.history) parts in
-          let room = ap (λ (x : Parts _). x.room) parts in
-          let some = c.most_entries-entries.ensures.some in
-          omega (arith, none, room, some);
-      outcome = ap (λ (x : Parts _). x.outcome) parts;
-      trace = ap (λ (x : Parts _). x.recorder.trace) parts ∙ c.requires.trace;
-      calm = ap (λ (x : Parts _). g.V.Device.faults x.recorder.device) parts ∙ sym (ap (λ (x : Parts _). x.faults) parts);
-    }
+    made_unbegun g.V.Device.faults g.G.Told.plan c.args.plan g.G.Told.draws c.in-Ok.floor _ c.in-Ok.ensures.stands c.in-Ok.ensures.parts c.most_entries-entries.ensures.planned
+    c.requires.plan refl c.most_entries-entries.ensures.some refl c.requires.trace refl
 
 pub load_and_replay-requires-clause-members : goal.load_and_replay-requires-clause-members
 load_and_replay-requires-clause-members g c = λ k w inside.
