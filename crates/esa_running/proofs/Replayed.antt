@@ -2,7 +2,7 @@
 use Rattle.std.proofs.Common.{◌≡◌, ℕ, ◌+◌, ◌≤◌, true, false, Some, List, length, refl, sym, ap, ◌∙◌, subst, arith}
 use Rattle.std.proofs.lemmas.List.{length-take}
 use Rattle.esa_ending.specs.Endings.{Overflows, Succeeds}
-use Rattle.esa_ending.specs.Seen.{Seen, stored}
+use Rattle.esa_ending.specs.Seen.{Seen}
 use Rattle.esa_job.specs.Refusal.{runs_crew}
 use Rattle.esa_laws.proofs.LaterLaws.{good-ends}
 use Rattle.esa_model.specs.Forecast.{made}

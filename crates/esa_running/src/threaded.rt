@@ -1,6 +1,6 @@
 //! The commands run and shuffle where threads can be started: a job may ask for a crew.
 
-ghost use Rattle.std.specs.Prelude.{◌≡◌, ◌≢◌, ◌∷◌, ◌+◌, ◌≤◌, ℕ, List, [], length, true, Some, IfOk, IfErr, MatchResult};
+ghost use Rattle.std.specs.Prelude.{◌≡◌, ◌≢◌, ◌∷◌, ◌+◌, ◌≤◌, [], length, true, Some, IfOk, IfErr, MatchResult};
 ghost use Rattle.esa_header.specs.Header.{header_length};
 ghost use Rattle.esa_job.specs.Refusal.{runs_crew};
 ghost use Rattle.esa_job.specs.Seen.{request_of};
@@ -13,11 +13,11 @@ ghost use Rattle.esa_shuffling.specs.Drawn.{draws_of};
 ghost use Rattle.esa_command.specs.Ends.{EndsBy};
 ghost use Rattle.esa_command.specs.Stand.{stand};
 ghost use Rattle.esa_command.specs.Taking.{name_of};
-ghost use Rattle.esa_running.specs.ComingOut.{batch_told, batch_part, IsMadeOf};
+ghost use Rattle.esa_running.specs.ComingOut.{batch_told, batch_part};
 ghost use Rattle.esa_running.specs.Outlets.{purpose_of, HasRoom};
 ghost use Rattle.esa_running.specs.Purpose.{command_for};
 ghost use Rattle.esa_running.specs.Run.{IsInside, run_steps};
-ghost use Rattle.esa_running.specs.RunEnded.{HasActed, HasWorked, IsIdle, history_in};
+ghost use Rattle.esa_running.specs.RunEnded.{HasActed, IsIdle, history_in};
 ghost use Rattle.esa_running.specs.RunOwes.{EndsShuffle, RunOwes};
 ghost use Rattle.esa_running.specs.RunTaken.{IsTaken, run_taken};
 ghost use Rattle.esa_running.specs.Wanted.{block_keys, outer_keys, turns_by, HasFewAttempts};
