@@ -71,8 +71,8 @@ pub record EndsWithTurn (p : Sizes) (a : ℕ) (h : List ℕ) (access : Access) :
 abbrev pub last_begun : List (List ℕ) → ℕ
 last_begun made = length made - 1
 
--- no turn was stored behind the one that made the last access: all turns of the attempt that was begun last were stored, or the last
--- one that was stored made that access
+-- no turn was stored behind the one that made the last access: all turns of the attempt that was begun last were
+-- stored, or the last one that was stored made that access
 abbrev pub NoTurnBehind : Sizes → List (List ℕ) → List (List ℕ) → Access → Type 0
 NoTurnBehind p made hs access =
     made ≢ [] → (turns_in made (last_begun made) ≡ turns_in hs (last_begun made)) ⊎ EndsWithTurn p (last_begun made) (turns_in made (last_begun made)) access

@@ -107,8 +107,8 @@ HasEnded purpose told faults asked given seen now work =
     HasSucceeded purpose told faults asked given seen now work
     ⊎ HasOverflowed asked seen work ⊎ HasFailedAt asked seen work ⊎ IsTamperedAt asked seen now.last work ⊎ IsUnloaded asked seen work ⊎ IsNotLaid seen work
 
--- the recorder of a shuffle: once the load was begun it is ready for these sizes, its log is of the accesses that were made, and
--- where its device tells its blocks, each has what was written there last, and the log is faithful
+-- the recorder of a shuffle: once the load was begun it is ready for these sizes, its log is of the accesses that were
+-- made, and where its device tells its blocks, each has what was written there last, and the log is faithful
 pub record IsRecorded {V : Type 0} (told : V → Option (List (List ℕ))) (p : Sizes) (history : List ℕ) (now : Recorded V) : Type 0 where
   pub plan : history ≢ [] → now.plan ≡ Some p
   pub logged : map (λ (entry : Carried). entry.access) now.log ≡ now.trace

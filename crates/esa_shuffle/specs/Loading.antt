@@ -77,8 +77,8 @@ WritesLoaded (Err o) log = WritesOf o log
 abbrev pub TakesInput : {V : Type 0} → Parts V → List ℕ → Type 0
 TakesInput f given = IsFaithful f.plan f.recorder.log → HasInput f (record_at f.plan f.outer given)
 
--- what a load made of the bytes that a batch gave, on a floor with no log: the input was written from them. Where all of it was
--- written, the floor has them as its input
+-- what a load made of the bytes that a batch gave, on a floor with no log: the input was written from them. Where all of
+-- it was written, the floor has them as its input
 pub record TakesBatch {V T : Type 0} (old now : Parts V) (result : Result T Outcome) (given : List ℕ) : Type 0 where
   pub written : old.recorder.log ≡ [] → IsWrittenFrom now.plan now.run given now.recorder.log
   pub whole : old.recorder.log ≡ [] → OnOk result (inputs_written now.recorder.log ≡ now.plan.b)

@@ -53,8 +53,8 @@ TookItsBucket p run given entry =
     (bytes : List ℕ) → writes_input entry.access ≡ true → entry.bytes ≡ Some bytes
     → bytes ≡ sealed_block p run (at Input entry.access.index) 0 (bucket_text p given entry.access.index)
 
--- the input was written from these bytes, whatever the device did: each write of it took the block of its bucket, and the bytes
--- are the records of as many buckets as writes of it were asked for
+-- the input was written from these bytes, whatever the device did: each write of it took the block of its bucket, and the
+-- bytes are the records of as many buckets as writes of it were asked for
 pub record IsWrittenFrom (p : Sizes) (run : Keys) (given : List ℕ) (log : List Carried) : Type 0 where
   pub took : All (TookItsBucket p run given) log
   pub count : length given ≡ envelope_length p.form * first p (inputs_written log)
