@@ -1,6 +1,6 @@
 //! The sort keys of opened reports with their counts, of either form.
 
-ghost use Rattle.std.specs.Prelude.{◌≡◌, ◌+◌, ◌*◌, ◌<◌, ◌≤◌, ◌^◌, ◌++◌, [], List, ℕ, Option, length, filter_map, IfOk, OnOk, OnErr};
+ghost use Rattle.std.specs.Prelude.{◌≡◌, ◌*◌, ◌<◌, ◌≤◌, ◌^◌, ◌++◌, [], List, ℕ, Option, length, filter_map, IfOk, OnOk, OnErr};
 ghost use Rattle.esa_header.specs.Pieces.{pieces};
 ghost use Rattle.esa_params.specs.Form.{inner_length};
 ghost use Rattle.esa_analyser.specs.Database.{rows_of};

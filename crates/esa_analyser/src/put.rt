@@ -6,7 +6,6 @@ ghost use Rattle.esa_outside.specs.Cause.{HasCause};
 ghost use Rattle.esa_outside.specs.Heard.{Event};
 ghost use Rattle.esa_page.specs.Underway.{IsUnderway, IsLeft};
 ghost use Rattle.esa_page.specs.Writing.{IsWriting, HasBroken};
-ghost use Rattle.esa_params.specs.declared.form.Form.{Form};
 ghost use Rattle.esa_analyser.specs.Rows.{row_bytes, front_bytes};
 
 use esa_header::version_of;

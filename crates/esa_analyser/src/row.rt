@@ -1,6 +1,6 @@
 //! One row of a database file.
 
-ghost use Rattle.std.specs.Prelude.{◌≡◌, ◌+◌, ◌≤◌, Option, Some, None, length, drop, MatchResult};
+ghost use Rattle.std.specs.Prelude.{◌≡◌, ◌+◌, ◌≤◌, Some, None, length, drop, MatchResult};
 ghost use Rattle.std.specs.Option.{option_map};
 ghost use Rattle.esa_analyser.specs.Rows.{is_above};
 ghost use Rattle.esa_analyser.specs.Reading.{row_refusal, row_length};

@@ -1,12 +1,11 @@
 //! Writing databases.
 
-ghost use Rattle.std.specs.Prelude.{◌≡◌, ◌⊎◌, ◌≤◌, ◌<◌, ◌++◌, List, ℕ, None, Some, Option, All, length, flat_map, OnOk, OnErr};
+ghost use Rattle.std.specs.Prelude.{◌≤◌, ◌++◌, List, ℕ, Option, All, length, flat_map, OnOk, OnErr};
 ghost use Rattle.esa_outside.specs.Files.{Files};
 ghost use Rattle.esa_outside.specs.Cause.{HasCause};
 ghost use Rattle.esa_outside.specs.Heard.{Event};
 ghost use Rattle.esa_page.specs.Underway.{IsUnderway, IsWhole, IsLeft};
 ghost use Rattle.esa_page.specs.Writing.{IsWriting, HasWritten, HasBroken};
-ghost use Rattle.esa_params.specs.declared.form.Form.{Form};
 ghost use Rattle.esa_analyser.specs.Database.{longest};
 ghost use Rattle.esa_analyser.specs.Rows.{row_bytes, database_bytes};
 

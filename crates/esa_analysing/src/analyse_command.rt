@@ -1,7 +1,6 @@
 //! The command analyse: a forward file becomes a database.
 
 ghost use Rattle.std.specs.Prelude.{◌≡◌, IfOk};
-ghost use Rattle.esa_envelope.specs.declared.label.Label.TheVariants.{Inner};
 ghost use Rattle.esa_job.specs.Seen.{Needs};
 ghost use Rattle.esa_analysing.specs.Analyse.{analyse_steps, database_work, number_of, counted_by, AreWhole};
 ghost use Rattle.esa_analysing.specs.AnalyseTaken.{analyse_taken, analyse_counted};

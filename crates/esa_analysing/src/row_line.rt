@@ -1,6 +1,6 @@
 //! The lines of the histogram.
 
-ghost use Rattle.std.specs.Prelude.{◌≡◌, ◌+◌, ◌*◌, ◌<◌, ◌≤◌, ◌++◌, [], length};
+ghost use Rattle.std.specs.Prelude.{◌≡◌, ◌+◌, ◌<◌, ◌≤◌, ◌++◌, [], length};
 ghost use Rattle.esa_bytes.specs.Decimal.{decimal_of};
 ghost use Rattle.esa_analysing.specs.RowText.{shown, hex_digit, placed, row_text, unopened_text};
 

@@ -1,6 +1,6 @@
 //! A batch whose records are known by their numbers.
 
-ghost use Rattle.std.specs.Prelude.{◌≡◌, ◌*◌, ◌≤◌, [], None, IfOk, length};
+ghost use Rattle.std.specs.Prelude.{◌≡◌, ◌*◌, [], None, IfOk, length};
 ghost use Rattle.esa_params.specs.Form.{envelope_length};
 
 use esa_envelope::{Keys, Label, Prepared, prepare, seal_with};

@@ -1,6 +1,6 @@
 //! A batch that lies in memory.
 
-ghost use Rattle.std.specs.Prelude.{◌≡◌, ◌*◌, ◌+◌, ◌<◌, Some, OnOk, OnErr, length, take, drop, slice_index_or, []};
+ghost use Rattle.std.specs.Prelude.{◌≡◌, ◌<◌, Some, OnOk, OnErr, length, take, drop, slice_index_or, []};
 ghost use Rattle.esa_header.specs.Header.{header_length};
 ghost use Rattle.esa_params.specs.Form.{envelope_length};
 ghost use Rattle.esa_batcher.specs.Batched.{IsBatch, batch_front, batch_bytes};

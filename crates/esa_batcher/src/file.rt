@@ -1,6 +1,6 @@
 //! A batch in a file, read by its places.
 
-ghost use Rattle.std.specs.Prelude.{◌*◌, ◌+◌, None, length, []};
+ghost use Rattle.std.specs.Prelude.{◌*◌, ◌+◌, None, []};
 ghost use Rattle.esa_batcher.specs.InFile.{FileGround, records_of, part_heard};
 ghost use Rattle.esa_outside.specs.Told.{Lacks};
 

@@ -1,6 +1,6 @@
 //! Draws from a generator: numbers below a bound, shuffled numbers, and separators.
 
-ghost use Rattle.std.specs.Prelude.{◌≡◌, ◌+◌, ◌-◌, ◌^◌, ◌<◌, ◌≤◌, length, All, IsPermutation};
+ghost use Rattle.std.specs.Prelude.{◌≡◌, ◌^◌, ◌<◌, ◌≤◌, length, All, IsPermutation};
 ghost use Rattle.esa_params.specs.Sizes.{below};
 ghost use Rattle.esa_coins.specs.Seeded.{stream_at, drawn_below, shuffled_below, separated};
 ghost use Rattle.rand_chacha.specs.ChaCha.{next_word};

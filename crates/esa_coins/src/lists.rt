@@ -1,6 +1,6 @@
 //! The lists of a coins file: targets and orders, and what each is refused for.
 
-ghost use Rattle.std.specs.Prelude.{◌≡◌, ◌*◌, ◌^◌, ◌<◌, map, option_map, ok_or, nat_lt, length, All, IfOk, MatchResult};
+ghost use Rattle.std.specs.Prelude.{◌≡◌, ◌^◌, ◌<◌, map, option_map, ok_or, nat_lt, length, All, IfOk, MatchResult};
 ghost use Rattle.serde_json.specs.View.{view};
 ghost use Rattle.esa_json.specs.Values.{number_in};
 ghost use Rattle.esa_coins.specs.Table.{Gives, each, only_if, list_in, numbers_in, targets_in, order_in, orders_in};

@@ -12,7 +12,7 @@ ghost use Rattle.esa_params.specs.declared.slot.Op.{Op};
 ghost use Rattle.esa_report.specs.declared.item.Item.{Item};
 ghost use Rattle.esa_spec.specs.Draws.{Draw};
 ghost use Rattle.esa_spec.specs.Lines.{tail};
-ghost use Rattle.esa_spec.specs.Traces.{attempt_trace, chunk_slot, drain, is_failed, load, spread};
+ghost use Rattle.esa_spec.specs.Traces.{attempt_trace, chunk_slot, drain, is_failed, spread};
 ghost use Rattle.esa_spec.specs.Turns.{order};
 ghost use Rattle.esa_spec.specs.Verdicts.{failing, is_finished, is_good, left, verdict};
 ghost use Rattle.esa_stash.specs.Stash.{queue_at};

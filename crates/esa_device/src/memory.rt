@@ -1,6 +1,6 @@
 //! A device whose blocks lie in memory.
 
-ghost use Rattle.std.specs.Prelude.{◌≡◌, ◌<◌, ◌↔◌, ℕ, List, [], Option, IfOk, OnOk, OnErr, IsErr, Contains, length, slice_get, slice_set};
+ghost use Rattle.std.specs.Prelude.{◌≡◌, ◌<◌, ◌↔◌, ℕ, List, [], IfOk, OnOk, OnErr, IsErr, Contains, length, slice_get, slice_set};
 ghost use Rattle.std.specs.Option.{option_map};
 ghost use Rattle.esa_outside.specs.Calls.{up};
 ghost use Rattle.esa_outside.specs.Cause.{HasCause};

@@ -1,6 +1,6 @@
 //! A recorder: every access to a device, in order.
 
-ghost use Rattle.std.specs.Prelude.{◌≡◌, ◌+◌, ◌<◌, ◌≤◌, ◌++◌, [], ◌∷◌, ℕ, List, Option, OnOk, OnErr, IsSome, length, map, take, slice_get, slice_set};
+ghost use Rattle.std.specs.Prelude.{◌≡◌, ◌+◌, ◌<◌, ◌≤◌, ◌++◌, [], ◌∷◌, ℕ, List, OnOk, OnErr, IsSome, length, map, take, slice_get, slice_set};
 ghost use Rattle.esa_params.specs.Slots.{greatest_trace};
 ghost use Rattle.esa_bytes.specs.Field.{u64_in};
 ghost use Rattle.esa_outside.specs.Cause.{HasCause};

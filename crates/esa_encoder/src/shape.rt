@@ -1,6 +1,6 @@
 //! What is sent in place of a value.
 
-ghost use Rattle.std.specs.Prelude.{◌<◌, Option, Some, None, length, MatchOption};
+ghost use Rattle.std.specs.Prelude.{MatchOption};
 ghost use Rattle.esa_encoder.specs.Report.{Shape, itself};
 ghost use Rattle.esa_encoder.specs.Shaped.{IsUnshaped, IsShaped};
 

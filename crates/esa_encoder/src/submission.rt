@@ -1,6 +1,6 @@
 //! Lines of reports become lines of submissions.
 
-ghost use Rattle.std.specs.Prelude.{◌≡◌, ◌⊎◌, ◌*◌, ◌+◌, ◌++◌, ◌∷◌, [], Ok, Err, Some, None, length, take, option_map, IfOk, IfErr, OnOk, OnErr, MatchResult};
+ghost use Rattle.std.specs.Prelude.{◌≡◌, ◌⊎◌, ◌*◌, ◌++◌, ◌∷◌, [], Ok, Err, Some, None, length, take, option_map, IfOk, IfErr, OnOk, OnErr, MatchResult};
 ghost use Rattle.hex.specs.Hex.{encode_lower};
 ghost use Rattle.esa_bytes.specs.Lines.{text_lines};
 ghost use Rattle.esa_params.specs.Form.{envelope_length};

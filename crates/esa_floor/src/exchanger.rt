@@ -1,6 +1,6 @@
 //! The stash of an attempt, and how many items its chunks have.
 
-ghost use Rattle.std.specs.Prelude.{◌≡◌, ◌≢◌, ℕ, ◌+◌, ◌*◌, ◌<◌, ◌≤◌, ◌↔◌, All, IfOk, IfErr, IsOk, OnOk, OnErr, length};
+ghost use Rattle.std.specs.Prelude.{◌≡◌, ◌≢◌, ℕ, ◌*◌, ◌<◌, ◌≤◌, ◌↔◌, All, IfOk, IfErr, IsOk, OnOk, OnErr, length};
 ghost use Rattle.esa_stash.specs.Dealing.{chunk_at};
 ghost use Rattle.esa_stash.specs.Stash.{chunks as chunks_of, count, empty_stash, exchanged, padded, padded_chunk, queue_at, total, without};
 ghost use Rattle.esa_floor.specs.Exchanges.{AreOf};

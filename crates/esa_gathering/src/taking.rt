@@ -1,6 +1,6 @@
 //! The inputs of a job, each read whole.
 
-ghost use Rattle.std.specs.Prelude.{◌≡◌, ◌+◌, ◌≤◌, ◌<◌, ◌^◌, IfOk, length};
+ghost use Rattle.std.specs.Prelude.{◌+◌, ◌≤◌, ◌<◌, ◌^◌, IfOk, length};
 ghost use Rattle.std.specs.List.{concat};
 ghost use Rattle.esa_job.specs.declared.command.Command.TheVariants as command;
 ghost use Rattle.esa_job.specs.Request.{inputs_at};

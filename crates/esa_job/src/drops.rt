@@ -30,7 +30,7 @@ impl Model for Drops {
 }
 
 impl Drops {
-    ghost use Rattle.std.specs.Prelude.{◌<◌, replicate, slice_index, Ok, Err, IfOk, IfErr, MatchResult};
+    ghost use Rattle.std.specs.Prelude.{replicate, slice_index, Ok, Err, IfOk, IfErr};
     ghost use Rattle.esa_job.specs.Drops.{drops_of};
 
     /// The table in which no record is dropped.

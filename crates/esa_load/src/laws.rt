@@ -1,6 +1,6 @@
 //! What a load gives to an attempt.
 
-ghost use Rattle.std.specs.Prelude.{◌≡◌, ℕ, List, ◌++◌, ◌*◌, ◌≤◌, length};
+ghost use Rattle.std.specs.Prelude.{ℕ, List, ◌++◌};
 ghost use Rattle.esa_device.specs.Logs.{Carried, IsFaithful};
 ghost use Rattle.esa_envelope.specs.declared.keys.Keys.{Keys};
 ghost use Rattle.esa_floor.specs.Keeping.{IsInput};

@@ -1,6 +1,6 @@
 //! The drain and the compression of an attempt, by numbers alone.
 
-ghost use Rattle.std.specs.Prelude.{◌≡◌, ℕ, suc, ◌+◌, ◌-◌, ◌*◌, ◌<◌, ◌≤◌, ◌∷◌, [], min, map, length, slice_index, unwrap_or};
+ghost use Rattle.std.specs.Prelude.{◌≡◌, ℕ, suc, ◌+◌, ◌-◌, ◌*◌, ◌<◌, ◌≤◌, ◌∷◌, [], map, length, slice_index, unwrap_or};
 ghost use Rattle.std.specs.List.{range_with_len};
 ghost use Rattle.esa_params.specs.Sizes.{ArePlanned, below};
 ghost use Rattle.esa_spec.specs.Draws.{Draw};

@@ -1,11 +1,10 @@
 //! A whole run by a crew: its memory is taken, and it runs.
 
-ghost use Rattle.std.specs.Prelude.{◌≡◌, ◌≢◌, ◌∷◌, ◌+◌, ◌*◌, ◌<◌, ◌≤◌, ◌^◌, ℕ, [], All, Some, IfErr, IfOk, length, slice_index_or, vec_capacity};
+ghost use Rattle.std.specs.Prelude.{◌≡◌, ◌≢◌, ◌∷◌, ◌+◌, ◌*◌, ◌<◌, ◌≤◌, ℕ, [], All, Some, length, slice_index_or, vec_capacity};
 ghost use Rattle.esa_crew.specs.Posts.{IsNewWorker};
 ghost use Rattle.esa_floor.specs.Marks.{mark_of};
 ghost use Rattle.esa_floor.specs.Working.{Working};
 ghost use Rattle.esa_params.specs.Form.{envelope_length};
-ghost use Rattle.esa_params.specs.Sizes.{ArePlanned};
 ghost use Rattle.esa_params.specs.Slots.{greatest_trace};
 ghost use Rattle.esa_shuffle.specs.Loading.{HasGiven, IsNewFloor};
 ghost use Rattle.esa_shuffle.specs.Records.{IsShuffledFrom};

@@ -6,7 +6,6 @@ ghost use Rattle.esa_floor.specs.Marks.{roots_of};
 ghost use Rattle.esa_floor.specs.Parts.{ended_as};
 ghost use Rattle.esa_floor.specs.Standing.{Stands};
 ghost use Rattle.esa_params.specs.Form.{envelope_length};
-ghost use Rattle.esa_params.specs.Sizes.{ArePlanned};
 ghost use Rattle.esa_params.specs.Slots.{greatest_trace};
 ghost use Rattle.esa_shuffle.specs.Loading.{HasGiven, IsNewFloor, IsUnbegun};
 ghost use Rattle.esa_shuffle.specs.Records.{IsShuffledFrom};

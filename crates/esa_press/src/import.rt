@@ -1,6 +1,6 @@
 //! The blocks of an import, each read to its place of one buffer.
 
-ghost use Rattle.std.specs.Prelude.{◌≡◌, ◌≢◌, ℕ, ◌+◌, ◌*◌, ◌<◌, ◌≤◌, List, Some, Ok, All, OnOk, flat_map, length, drop, slice_index, slice_range, sum, take};
+ghost use Rattle.std.specs.Prelude.{◌≡◌, ◌≢◌, ℕ, ◌+◌, ◌*◌, ◌<◌, ◌≤◌, List, Some, All, OnOk, flat_map, length, drop, slice_index, slice_range, sum, take};
 ghost use Rattle.esa_device.specs.Logs.{IsFaithful};
 ghost use Rattle.esa_params.specs.Sizes.{below};
 ghost use Rattle.esa_params.specs.Slots.{IsPlanned, at, block_length, item_length, plain_length};

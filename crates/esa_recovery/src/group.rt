@@ -1,6 +1,6 @@
 //! The shares of a group, and what they give back.
 
-ghost use Rattle.std.specs.Prelude.{◌≡◌, ◌<◌, ◌≤◌, ◌*◌, ◌-◌, [], true, ℕ, List, Some, length, take, drop, slice_index, OnOk, IfOk};
+ghost use Rattle.std.specs.Prelude.{◌≡◌, ◌<◌, ◌≤◌, ◌*◌, [], true, ℕ, List, length, slice_index, OnOk, IfOk};
 ghost use Rattle.std.specs.Option.{option_map};
 ghost use Rattle.esa_shares.specs.Polynomial.{ArePoints, recovered};
 ghost use Rattle.esa_shares.specs.Share.{is_share};

@@ -1,12 +1,12 @@
 //! What the groups of a database's share records give back.
 
-ghost use Rattle.std.specs.Prelude.{◌≡◌, ◌==◌, ◌<◌, ℕ, None, Some, All, length, if◌then◌else◌, slice_index, IfOk};
-ghost use Rattle.std.specs.List.{list_any, slice_get};
+ghost use Rattle.std.specs.Prelude.{◌≡◌, ◌==◌, ◌<◌, ℕ, None, All, length, if◌then◌else◌, slice_index, IfOk};
+ghost use Rattle.std.specs.List.{list_any};
 ghost use Rattle.std.specs.Option.{option_map};
 ghost use Rattle.esa_analyser.specs.Rows.{AreRising};
 ghost use Rattle.esa_recovery.specs.Group.{given_back};
 ghost use Rattle.esa_recovery.specs.Members.{IsMember, values_at};
-ghost use Rattle.esa_recovery.specs.Groups.{given, Opens};
+ghost use Rattle.esa_recovery.specs.Groups.{Opens};
 
 use crate::group::Group;
 use crate::members::{Member, members_of, run_length};

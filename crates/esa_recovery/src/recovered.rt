@@ -1,6 +1,6 @@
 //! The database of what the rows of a database mean.
 
-ghost use Rattle.std.specs.Prelude.{◌≡◌, ◌+◌, ◌<◌, ◌≤◌, ◌↔◌, ◌^◌, Err, IfOk, MatchResult, All, length};
+ghost use Rattle.std.specs.Prelude.{◌≡◌, ◌<◌, ◌≤◌, ◌↔◌, ◌^◌, Err, IfOk, MatchResult, All, length};
 ghost use Rattle.esa_analyser.specs.Database.{Database, longest};
 ghost use Rattle.esa_analyser.specs.Rows.{IsDatabase, database_bytes};
 ghost use Rattle.esa_params.specs.declared.form.Form.{Form};

@@ -4,7 +4,6 @@ ghost use Rattle.std.specs.Prelude.{◌≡◌, ◌*◌, ◌≤◌, ℕ, List, So
 ghost use Rattle.esa_running.specs.Forwarding.{AreJoined, Forwards, BreaksOff};
 ghost use Rattle.esa_running.specs.RunOwes.{fault_status};
 ghost use Rattle.esa_running.specs.RunTaken.{IsTaken, run_taken};
-ghost use Rattle.esa_running.specs.Wanted.{sizes_in};
 
 use crate::input::RunInput;
 use esa_device::{Device, Recorder};

@@ -1,7 +1,7 @@
 //! What becomes of what is forwarded.
 
 ghost use Rattle.std.specs.Prelude.{◌≡◌, ◌*◌, ◌≤◌, ℕ, List, length, IfOk};
-ghost use Rattle.esa_job.specs.declared.command.Command.TheVariants.{Run, Shuffle};
+ghost use Rattle.esa_job.specs.declared.command.Command.TheVariants.{Run};
 ghost use Rattle.esa_job.specs.Seen.{request_of};
 ghost use Rattle.esa_params.specs.Form.{inner_length};
 ghost use Rattle.esa_command.specs.Settled.{Settles};

@@ -1,6 +1,6 @@
 //! One block of the output, in each of the two scans.
 
-ghost use Rattle.std.specs.Prelude.{◌≡◌, ◌+◌, ◌-◌, ◌*◌, ◌<◌, ◌≤◌, ◌++◌, ℕ, List, [], Some, OnOk, length, take};
+ghost use Rattle.std.specs.Prelude.{◌≡◌, ◌+◌, ◌*◌, ◌<◌, ◌≤◌, ◌++◌, ℕ, List, [], Some, OnOk, length, take};
 ghost use Rattle.std.specs.List.{concat};
 ghost use Rattle.esa_crowds.specs.Entries.{entries_from};
 ghost use Rattle.esa_crowds.specs.Kept.{sent_from};

@@ -1,6 +1,6 @@
 //! The two scans.
 
-ghost use Rattle.std.specs.Prelude.{◌≡◌, ◌*◌, ◌<◌, ◌≤◌, ◌⊎◌, ℕ, List, [], Some, OnOk, OnErr, length};
+ghost use Rattle.std.specs.Prelude.{◌≡◌, ◌*◌, ◌≤◌, ◌⊎◌, ℕ, List, [], Some, OnOk, OnErr, length};
 ghost use Rattle.std.specs.List.{concat};
 ghost use Rattle.esa_crowds.specs.Entries.{entries};
 ghost use Rattle.esa_crowds.specs.Kept.{sent_from};

@@ -12,7 +12,7 @@ ghost use Rattle.esa_spec.specs.Places.{output_places, places, window};
 ghost use Rattle.esa_spec.specs.Traces.{trace};
 ghost use Rattle.esa_spec.specs.Turns.{events, order};
 ghost use Rattle.esa_spec.specs.Verdicts.{verdict};
-ghost use Rattle.esa_params.specs.declared.form.Form.TheVariants.{One, Two};
+ghost use Rattle.esa_params.specs.declared.form.Form.TheVariants.{Two};
 ghost use Rattle.esa_spec.specs.declared.event.Event.TheVariants.{Claim, Read, Exchange, Write};
 ghost use Rattle.esa_spec.specs.declared.event.Verdict.TheVariants.{Good, StashOverflow, StashLeft, QueueOverflow, QueueStarved};
 

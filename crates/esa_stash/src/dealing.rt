@@ -1,6 +1,6 @@
 //! The steps of an exchange, over an arena, chunks and counts.
 
-ghost use Rattle.std.specs.Prelude.{◌≡◌, ℕ, ◌+◌, ◌*◌, ◌≤◌, ◌<◌, ◌^◌, List, [], All, length, take, drop, sum_by, slice_index};
+ghost use Rattle.std.specs.Prelude.{◌≡◌, ℕ, ◌*◌, ◌≤◌, ◌<◌, ◌^◌, List, [], All, length, take, drop, sum_by, slice_index};
 ghost use Rattle.esa_stash.specs.Arena.{queues_of};
 ghost use Rattle.esa_stash.specs.Stash.{padded};
 ghost use Rattle.esa_stash.specs.Sizes.{below};

@@ -1,6 +1,6 @@
 //! The forward file.
 
-ghost use Rattle.std.specs.Prelude.{◌≡◌, ◌⊎◌, ◌<◌, List, ℕ, length, take, drop, IfOk, MatchResult};
+ghost use Rattle.std.specs.Prelude.{◌≡◌, ◌⊎◌, List, ℕ, take, drop, IfOk, MatchResult};
 ghost use Rattle.esa_header.specs.Header.{header_length};
 ghost use Rattle.esa_threshold.specs.declared.refused.ForwardRefused.TheVariants.{OutOfMemory};
 ghost use Rattle.esa_threshold.specs.Forward.{forward_front, forward_bytes, CanForward, forwarded_as, IsForwardFile, forward_header_in, forward_in};

@@ -1,6 +1,6 @@
 //! Writing a trace.
 
-ghost use Rattle.std.specs.Prelude.{◌≡◌, ◌⊎◌, ◌<◌, ◌^◌, ◌++◌, List, ℕ, None, Some, Option, All, length, flat_map, OnOk, OnErr};
+ghost use Rattle.std.specs.Prelude.{◌<◌, ◌^◌, ◌++◌, List, ℕ, Option, All, length, flat_map, OnOk, OnErr};
 ghost use Rattle.esa_outside.specs.Files.{Files};
 ghost use Rattle.esa_outside.specs.Cause.{HasCause};
 ghost use Rattle.esa_outside.specs.Heard.{Event};

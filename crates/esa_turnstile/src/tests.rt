@@ -1,4 +1,4 @@
-ghost use Rattle.std.specs.Prelude.{◌≡◌, ◌+◌, ◌*◌, ◌<◌, ◌≤◌, IfOk, length, All};
+ghost use Rattle.std.specs.Prelude.{◌≡◌, ◌*◌, ◌<◌, ◌≤◌, IfOk, length, All};
 ghost use Rattle.esa_turnstile.specs.Rolls.{room_in};
 ghost use Rattle.esa_turnstile.specs.Passes.{passes_of, tickets_of, opened_of, IsPassOf, IsNewPass};
 

@@ -1,6 +1,6 @@
 //! The work of one worker: turn after turn, each inside the turnstile, and its private work between them.
 
-ghost use Rattle.std.specs.Prelude.{◌≡◌, ◌≢◌, ℕ, ◌-◌, ◌*◌, ◌<◌, ◌≤◌, ◌++◌, ◌∷◌, ◌⊎◌, [], None, Some, true, false, length};
+ghost use Rattle.std.specs.Prelude.{◌≡◌, ◌≢◌, ℕ, ◌*◌, ◌<◌, ◌≤◌, ◌++◌, ◌∷◌, ◌⊎◌, [], None, Some, true, false, length};
 ghost use mathlib.Core.List.{IsPrefix};
 ghost use Rattle.esa_floor.specs.Marks.{mark_of, roots_of};
 ghost use Rattle.esa_crew.specs.Posts.{KeepsRecords};

@@ -1,5 +1,5 @@
 //! How a pass gets in.
-ghost use Rattle.std.specs.Prelude.{◌≡◌, ◌+◌, ◌*◌, ◌<◌, ◌≤◌, ℕ, [], ◌∷◌, None, length, All, IfOk, OnErr};
+ghost use Rattle.std.specs.Prelude.{◌≡◌, ◌*◌, ◌<◌, ◌≤◌, ℕ, [], ◌∷◌, None, length, All, IfOk, OnErr};
 ghost use mathlib.Core.List.{IsPrefix};
 ghost use Rattle.esa_turnstile.specs.declared.view.Stage.TheVariants.{Outside, Waiting};
 ghost use Rattle.esa_turnstile.specs.Entries.{times};

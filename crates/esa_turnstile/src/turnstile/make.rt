@@ -1,5 +1,5 @@
 //! How a turnstile is made, and its passes are given out.
-ghost use Rattle.std.specs.Prelude.{◌≡◌, ◌+◌, ◌-◌, ◌*◌, ◌^◌, ◌<◌, ℕ, [], ◌∷◌, length, slice_index_or, Some, IfOk, IfErr, All, ◌≤◌, vec_capacity};
+ghost use Rattle.std.specs.Prelude.{◌≡◌, ◌+◌, ◌*◌, ◌^◌, ◌<◌, ℕ, [], ◌∷◌, length, slice_index_or, Some, IfOk, IfErr, All, ◌≤◌, vec_capacity};
 ghost use Rattle.esa_turnstile.specs.Marks.{marked};
 ghost use Rattle.esa_turnstile.specs.Views.{dealing};
 ghost use Rattle.esa_turnstile.specs.Passes.{passes_of, tickets_of, opened_of, IsSeatOf, IsPassOf, IsNewPass, number_of};
