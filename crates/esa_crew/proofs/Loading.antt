@@ -1,13 +1,11 @@
 -- A floor that was loaded stands once its first attempt is begun.
-use Rattle.std.proofs.Common.{◌≡◌, ℕ, zero, suc, ◌+◌, ◌-◌, ◌*◌, ◌<◌, List, [], ◌∷◌, ◌++◌, length, take, All, Option, Some, None, refl, sym, ap, ap₂, ◌∙◌, subst, arith, append-nil}
+use Rattle.std.proofs.Common.{◌≡◌, ℕ, zero, suc, ◌+◌, ◌-◌, ◌*◌, ◌<◌, List, [], ◌∷◌, ◌++◌, length, take, All, Option, Some, refl, sym, ap, ap₂, ◌∙◌, subst, arith, append-nil}
 use Rattle.std.proofs.lemmas.List.{length-append}
 use Rattle.std.proofs.lemmas.List.Elements.{All-nil, All-replicate}
 use Rattle.esa_laws.proofs.HistoryLaws.{begun-owner, latest-owner, lists-first}
-use Rattle.esa_device.specs.Recording.{Recorded}
-use Rattle.esa_envelope.specs.declared.keys.Keys.{Keys}
-use Rattle.esa_params.specs.Sizes.{ArePlanned, Sizes}
+use Rattle.esa_params.specs.Sizes.{Sizes}
 use Rattle.esa_params.specs.Slots.{item_length}
-use Rattle.esa_spec.specs.Draws.{Draw, drawn}
+use Rattle.esa_spec.specs.Draws.{Draw}
 use Rattle.esa_spec.specs.Histories.{begun, latest, lists}
 use Rattle.esa_spec.specs.Traces.{all_failed, attempts, load, spread}
 use Rattle.esa_stash.specs.Stash.{empty_stash, queue_at}
@@ -15,9 +13,7 @@ use Rattle.esa_vault.specs.Placed.{IsHeld, IsSpelled}
 use Rattle.esa_floor.specs.Parts.{Parts, begun_as, no_counts, nothing_counted}
 use Rattle.esa_floor.specs.Standing.{IsAt, IsAtWork, IsSpread, Stands}
 use Rattle.esa_floor.specs.declared.turn.Outcome.{Outcome}
-use Rattle.esa_floor.specs.Working.{Working}
 use Rattle.esa_crew.specs.Loads.{IsLoaded}
-use Rattle.esa_crew.specs.Posts.{IsMember, IsNewWorker}
 
 none_waits : (b c s i : ℕ) → length (queue_at (empty_stash b c s) i) ≡ 0
 none_waits zero c s i = refl
@@ -72,40 +68,3 @@ module _ {V : Type 0} (faults : V → ℕ) (p : Sizes) (ds : ℕ → Draw) (f : 
     drawn = loaded.drawn;
     state = subst (λ (o : Option Outcome). IsAt faults ds (begun_as f 0) o (Some 0)) (sym loaded.goes_on) at_work;
   }
-
--- the same of a floor that was just made, and of which the recorder has written the blocks
-pub made_begins : {V : Type 0} (faults : V → ℕ) (p plan : Sizes) (ds : ℕ → Draw) (f : Parts V) (new : Recorded V) → Stands faults p ds f → ArePlanned plan
-    → f.plan ≡ plan → f.history ≡ [] → 0 < f.room → f.outcome ≡ None → f.faults ≡ faults f.recorder.device → f.recorder.trace ≡ []
-    → new.trace ≡ load plan → length new.trace + new.room ≡ f.recorder.room → new.plan ≡ f.recorder.plan → faults new.device ≡ faults f.recorder.device
-    → Stands faults p ds (begun_as (record f { recorder = new }) 0)
-made_begins faults p plan ds f new stands planned same none room goes_on counted untouched trace left ready calm =
-    first_begins faults p ds (record f { recorder = new }) (record {
-      of = record {
-        plan = stands.of.plan;
-        ready = ready ∙ stands.of.ready;
-        room = let most = stands.of.room in let empty = ap length untouched in omega (arith, most, empty, left);
-        entries = stands.of.entries;
-      };
-      room = let empty = ap length none in omega (arith, empty, room);
-      drawn = stands.drawn;
-      attempts = subst (λ (q : Sizes). 0 < q.attempts) (sym same ∙ stands.of.plan) (let least = planned.parameters.attempts_least in omega (arith, least));
-      none_begun = ap (begun f.plan.workers) none;
-      goes_on = goes_on;
-      trace = trace ∙ ap load (sym same);
-      calm = calm ∙ sym counted;
-    })
-
--- a worker that was made is of a floor of its plan, keys and draws
-pub is_member : {V C : Type 0} (ds : ℕ → Draw) (targets orders : C → ℕ → ℕ → List ℕ) (f : Parts V) (coins : C) (plan : Sizes) (outer run : Keys) (k : ℕ) (w : Working C)
-    → f.plan ≡ plan → f.outer ≡ outer → f.run ≡ run → ((a : ℕ) → ds a ≡ drawn (targets coins) (orders coins) a) → k < plan.workers
-    → IsNewWorker coins plan outer run k w → IsMember ds targets f k w
-is_member {C = C} ds targets orders f coins plan outer run k w same sealed kept draws inside made = record {
-  number = made.number;
-  of = record {
-    number = let is = made.number in let workers = ap (λ (q : Sizes). q.workers) same in omega (arith, is, workers, inside);
-    plan = made.plan ∙ sym same;
-    outer = made.outer_are ∙ sym sealed;
-    run = made.run_are ∙ sym kept;
-    draws = λ a j few bucket. ap (λ (c : C). targets c a j) made.coins_are ∙ sym (ap (λ (d : Draw). d.targets j) (draws a));
-  };
-}

@@ -19,6 +19,3 @@ pub use ends::{
 pub use loads::loaded_floors_begin;
 pub use members::workers;
 pub use replays::replay;
-
-#[cfg(test)]
-mod tests;
