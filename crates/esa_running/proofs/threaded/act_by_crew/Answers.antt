@@ -8,7 +8,8 @@ use Rattle.esa_command.specs.Doing.{failed_work}
 use Rattle.esa_command.specs.Stand.{stand}
 use Rattle.esa_command.proofs.Settling.{none_written}
 use Rattle.esa_running.specs.RunTaken.{run_taken}
-use Rattle.esa_running.proofs.ComingOut.{none_loaded, none_became}
+use Rattle.esa_running.specs.Wanted.{sizes_in}
+use Rattle.esa_running.proofs.ComingOut.{none_loaded, none_became, none_recorded}
 use Rattle.esa_running.proofs.threaded.act_by_crew.Goals as goal
 
 failed_cause : (before now : ℕ) → Counted {T = Unit {0}} before now (Err Failed) → Rose before now
@@ -25,6 +26,7 @@ returns g c =
         load = none_loaded (run_taken c.args.input.now) cabinet;
         became = none_became (run_taken c.args.input.now) c.ready.new.self.log c.ready.ensures.log;
         ends = inr (inr (inr (inr (inr (record { trace = c.ready.ensures.trace; history = refl; cause = failed_cause _ _ (rw c.in-Err-Failed.field-0-is at c.in-Err-Failed.ensures.cause); owed = refl })))));
+        recorder = none_recorded g.V.Device.told (sizes_in (run_taken c.args.input.now)) c.ready.new.self c.ready.ensures.trace c.ready.ensures.log;
         still = refl;
       };
       settles = c.settle_failed.ensures [] cabinet cabinet (none_written cabinet);

@@ -4,6 +4,8 @@ use Rattle.esa_shuffle.specs.Records.{IsShuffledFrom}
 use Rattle.esa_shuffle.specs.Runs.{seen_of}
 use Rattle.esa_command.specs.Stand.{stand}
 use Rattle.esa_running.specs.ComingOut.{batch_told, batch_part, IsLoaded}
+use Rattle.esa_running.specs.RunEnded.{history_in}
+use Rattle.esa_running.specs.RunOwes.{IsRecorded}
 use Rattle.esa_running.specs.RunTaken.{run_taken}
 use Rattle.esa_running.specs.Wanted.{block_keys, outer_keys, turns_by}
 use Rattle.esa_running.proofs.ComingOut.{loaded, made_of}
@@ -38,6 +40,7 @@ returns-in-Ok g c =
         load = subst (λ history. IsLoaded asked taken acted history gave.given) (sym c.end_ran.ensures.history) (loaded asked taken acted ran.history ran.recorder.log ran.outcome gave);
         became = done.became;
         ends = done.ends;
+        recorder = subst (λ p. IsRecorded g.V.Device.told p (history_in c.end_ran.result.history) c.end_ran.result.recorder) c.requires.taken.plan c.end_ran.ensures.recorder;
         still = c.crew_batch.ensures.told;
       };
       settles = done.settles;
