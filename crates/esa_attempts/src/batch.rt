@@ -9,8 +9,8 @@ use esa_params::Plan;
 use std::alloc::{AllocError, Global};
 use std::marker::Model;
 
-/// Outer envelopes, one after another. The text of each is the number of its place, byte after byte. One read of them may
-/// fail.
+/// Outer envelopes, one after another. The text of each is the number of its place, byte after byte. One read of
+/// them may fail.
 #[derive(Drop)]
 pub struct Numbered {
     count: u32,

@@ -10,8 +10,8 @@ use esa_floor::{Floor, Given, Stop, Told, Turn};
 use esa_report::Item;
 use std::alloc::Global;
 
-/// The lines of what is seen of a floor: its history, why its turns have stopped, what a worker was told in its last turn,
-/// the counts of the chunks, the queues, the accesses, and what the chunks of the attempt at work hold.
+/// The lines of what is seen of a floor: its history, why its turns have stopped, what a worker was told in its last
+/// turn, the counts of the chunks, the queues, the accesses, and what the chunks of the attempt at work hold.
 pub fn floor_lines<V: Device + Drop, G: Told + Drop>(
     alloc: Global,
     mut floor: Floor<V, G>,

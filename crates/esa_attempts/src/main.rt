@@ -1,5 +1,5 @@
-//! Runs the shuffles and replays of its data over a device in memory that fails, flips and forgets as each case says, and
-//! compares what is seen of each with what the case says.
+//! Runs the shuffles and replays of its data over a device in memory that fails, flips and forgets as each case says,
+//! and compares what is seen of each with what the case says.
 //!
 //! The words after the program's name are files of cases in the form of docs/TESTING.md. It prints a line for each case
 //! and each difference, and counts at the end. It ends with status 1 if anything differs, a file isn't in the form, or

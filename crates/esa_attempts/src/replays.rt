@@ -29,8 +29,8 @@ use esa_spec::Coins;
 use std::alloc::Global;
 use std::marker::Brand;
 
-/// Replays the turns of each attempt, up to the first that doesn't overflow the stash, lets a worker have one more turn,
-/// and answers the lines of what is seen of the floor.
+/// Replays the turns of each attempt, up to the first that doesn't overflow the stash, lets a worker have one more
+/// turn, and answers the lines of what is seen of the floor.
 pub fn replay_lines<V: Device + Drop, C: Coins>(
     alloc: Global,
     plan: Plan,
@@ -86,7 +86,7 @@ fn replayed<G: Told + Drop, V: Device + Drop, C: Coins>(
     floor_lines(alloc, floor, &keys, told)
 }
 
-/// How many entries the history of a replay has at most: for each attempt the owner's and those of its turns, and one more.
+/// How many entries the history of a replay has at most: for each attempt the owner's and its turns', and one more.
 fn most_entries(plan: &Plan, turns: &Turns) -> u64
     ensures planned { ArePlanned plan.now }
     ensures some { 0 < result }
@@ -126,7 +126,7 @@ fn load_and_replay<V: Device, G: Told, C: Coins, R: Records>(
     Ok(late_turn(floor, crew, late))
 }
 
-/// Replays the turns of each attempt, up to the first that doesn't overflow the stash. There is room for so many entries.
+/// Replays the turns of each attempt, up to the first that doesn't overflow the stash. There is room for these entries.
 fn replay_all<V: Device, G: Told, C: Coins>(
     floor: &mut Floor<V, G>,
     crew: &mut [Worker<'_, C>],
