@@ -37,13 +37,16 @@ def ending_of(step, status, printed):
 
 
 def main():
-    esa = program_of(arguments(__doc__).parse_args())
+    asked = arguments(__doc__).parse_args()
+    esa = program_of(asked)
     wrong, endings = [], ["as ever", "file", "printer", "device", "not begun"]
     with tempfile.TemporaryDirectory() as folder:
         prepare(folder)
         print(f"{'command':<10} {'job':<14}", *(f"{ending:>10}" for ending in endings))
         for command, job, fields in STEPS:
             step = Step(esa, folder, command, job, fields)
+            if asked.only and job not in asked.only:
+                continue
             counts = dict.fromkeys(endings, 0)
             for kind, count in step.kinds().items():
                 for number in range(1, count + 1 if kind in KINDS else 1):

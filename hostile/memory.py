@@ -46,8 +46,14 @@ def is_unmade(before, after):
     return after == {name: data for name, data in before.items() if name != DEVICE}
 
 
+def settled(files, fields):
+    """The files that are the same whatever the schedule: of a crew's run not the external memory."""
+    return {name: data for name, data in files.items() if name != DEVICE or fields.get("mode") != "crew"}
+
+
 def main():
-    esa = program_of(arguments(__doc__).parse_args())
+    asked = arguments(__doc__).parse_args()
+    esa = program_of(asked)
     wrong = []
     with tempfile.TemporaryDirectory() as tools, tempfile.TemporaryDirectory() as folder:
         refuser = Refuser(tools)
@@ -61,6 +67,8 @@ def main():
             wrong += [f"{command} {job}.json ended with status {status}"] if status else []
             wrong += [] if count else [f"{command} {job}.json: no allocation was seen"]
             ample = files_of(folder)
+            if asked.only and job not in asked.only:
+                continue
             short = same = 0
             for refused in range(1, count + 1):
                 restore(folder, before)
@@ -68,7 +76,7 @@ def main():
                 after = files_of(folder)
                 if answer == (6, b"out of memory\n") and is_unmade(before, after):
                     short += 1
-                elif answer == (status, printed) and after == ample:
+                elif answer == (status, printed) and settled(after, fields) == settled(ample, fields):
                     same += 1
                 else:
                     wrong.append(f"{command} {job}.json, allocation {refused}: {answer}")

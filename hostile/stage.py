@@ -17,7 +17,8 @@ SHUFFLE = {"b": 8, "c": 48, "s": 400, "k": 64, "w": 4, "q": 2000, "workers": 4, 
 RECORDS = 2000
 DROPS = "".join(f"{place % 5}\n" for place in range(256))
 
-# A command, the job in which it is called, and that job. Each finds the files that those before it wrote.
+# A command, the job in which it is called, and that job. Each finds the files that those before it wrote. Jobs of crews
+# ask for no trace and no turns, which differ from run to run.
 STEPS = [
     ("gen", "gen", {"output": "reports", "number": 1, "records": RECORDS, "crowds": 40}),
     ("encode", "encode", {"keys": "keys.json", "input": "reports", "output": "submissions", "nonce_base": 0}),
@@ -31,6 +32,10 @@ STEPS = [
                     "drops": "drops", "m": 100, "t": 20, **SHUFFLE}),
     ("run", "two_run", {"keys": "keys.json", "input": "batch2", "output": "database2", "m": 100, "t": 20, **SHUFFLE}),
     ("shuffle", "shuffle", {"keys": "keys.json", "input": "batch", "output": "handed_on", "m": 100, "t": 20, **SHUFFLE}),
+    ("run", "crew", {"keys": "keys.json", "input": "batch", "output": "database3", "drops": "drops", "m": 100, "t": 20,
+                     **SHUFFLE, "mode": "crew"}),
+    ("shuffle", "crew_shuffle", {"keys": "keys.json", "input": "batch2", "output": "handed_on2", "m": 100, "t": 20,
+                                 **SHUFFLE, "mode": "crew"}),
     ("analyse", "analyse", {"keys": "demo_keys.json", "input": "forward", "output": "counted"}),
     ("histogram", "histogram", {"input": "counted"}),
     ("upgrade", "upgrade", {"input": "counted", "output": "upgraded"}),
@@ -42,6 +47,7 @@ def arguments(about):
     """The words of a script, which all may name the program."""
     words = argparse.ArgumentParser(description=about.splitlines()[0])
     words.add_argument("--esa", help="a built program, in place of one that is built here")
+    words.add_argument("--only", metavar="JOB", nargs="*", help="try these jobs alone, and call the others once")
     return words
 
 
