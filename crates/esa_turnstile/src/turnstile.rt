@@ -1,6 +1,7 @@
 //! The turnstile and what its calls give.
 ghost use Rattle.std.specs.Prelude.{◌≡◌, ◌<◌};
 
+mod bells;
 mod close;
 mod enter;
 mod leave;
@@ -12,6 +13,7 @@ use crate::pass::Pass;
 use crate::plays::Lock;
 use crate::view::{About, View};
 use atomic_table::Table;
+use bells::Bells;
 use std::alloc::Global;
 
 /// The next ticket to be drawn, and the ticket that is served.
@@ -25,6 +27,7 @@ const SLOT: usize = 0;
 #[derive(Drop)]
 pub struct Turnstile<T: Logged> {
     table: Table<Option<T>, View<T>, About<T>, Lock, Global>,
+    bells: Bells,
     pub ghost sized: { (table.shared.table_id.words ≡ 2) × (table.shared.table_id.slots ≡ 1) },
     pub ghost some: { 0 < table.shared.key.passes },
 }

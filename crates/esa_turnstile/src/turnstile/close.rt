@@ -84,7 +84,7 @@ impl<T: Logged> Turnstile<T> {
         requires whole { length seat.me.0.members ≡ passes_of self }
         ensures settled { IsSettled T.log T.origin T.IsSound (marked T.mark T.trail) self.table.shared.key seat.me.0 result }
     {
-        let Turnstile { table } = self;
+        let Turnstile { table, bells: _ } = self;
         let mut closed = table.close_with(seat);
         let value = closed.take(SLOT);
         closed.free();

@@ -15,8 +15,11 @@ use crate::plays::{Draw, Look};
 use std::hint;
 use std::sync::Wait;
 
-/// How often a thread looks before it sleeps.
-const SPINS: u32 = 100;
+/// How often a thread looks before it sleeps, where its ticket is the next.
+const NEXT_SPINS: u32 = 2000;
+
+/// How often it looks where its ticket is a later one.
+const LATER_SPINS: u32 = 100;
 
 impl<T: Logged> Turnstile<T> {
     /// Waits until all who drew a ticket before have left, and takes the value. It takes no memory.
@@ -72,7 +75,7 @@ impl<T: Logged> Turnstile<T> {
         for _ in rt.forever() {
             match self.look(seat, ticket) {
                 Ok(value) => return value,
-                Err(serving) => spins = self.pause(rt, spins, serving),
+                Err(serving) => spins = self.pause(rt, spins, ticket, serving),
             }
         }
         unreachable!()
@@ -96,16 +99,32 @@ impl<T: Logged> Turnstile<T> {
         Ok(value.unwrap())
     }
 
-    /// Spins at first, and then sleeps while this ticket is served. Returns how often it has spun.
-    fn pause<R: Wait>(&self, rt: &R, spins: u32, serving: u64) -> u32 {
-        if spins < SPINS {
+    /// Spins at first, and then sleeps by the ticket's bell. Returns how often it has spun since it last slept.
+    fn pause<R: Wait>(&self, rt: &R, spins: u32, ticket: u64, serving: u64) -> u32 {
+        if spins < most_spins(ticket, serving) {
             hint::spin_loop();
             spins + 1
         } else {
-            self.table
-                .shared
-                .park(rt, SERVED, (serving & 0xffff_ffff) as u32);
-            spins
+            self.sleep(rt, ticket);
+            0
         }
+    }
+
+    /// Sleeps until the ticket's bell rings. It looks once more before: a ticket that is served after that look rings
+    /// for a thread that it finds waiting.
+    fn sleep<R: Wait>(&self, rt: &R, ticket: u64) {
+        let key = self.bells.of(ticket).prepare_wait();
+        if self.table.shared.peek(SERVED) != ticket {
+            key.wait(rt);
+        }
+    }
+}
+
+/// How often a thread with this ticket looks before it sleeps.
+fn most_spins(ticket: u64, serving: u64) -> u32 {
+    if ticket.wrapping_sub(serving) == 1 {
+        NEXT_SPINS
+    } else {
+        LATER_SPINS
     }
 }

@@ -7,13 +7,13 @@ ghost use Rattle.esa_turnstile.specs.Views.{gone, first_number, is_inside, lates
 ghost use Rattle.esa_turnstile.specs.Steps.{sight_of};
 ghost use Rattle.esa_turnstile.specs.Passes.{opened_of, IsSeatOf, IsSameSeat, IsPassOf, IsOutside, IsInside, number_of, seen_of, mark_of, trail_of, added_of, left_of, found_of, found_mark_of, found_trail_of};
 
-use super::{NEXT, SERVED, SLOT, Turnstile};
+use super::{SERVED, SLOT, Turnstile};
 use crate::logged::Logged;
 use crate::pass::{Held, Pass, Place};
 use crate::plays::Advance;
 
 impl<T: Logged> Turnstile<T> {
-    /// Gives the value back, and wakes those who wait. It takes no memory.
+    /// Gives the value back, and wakes who is next. It takes no memory.
     pub fn leave(&self, pass: &mut Pass<T>, held: Held<T>)
         requires pass { IsPassOf self.now pass.old }
         requires inside { IsInside pass.old }
@@ -47,8 +47,13 @@ impl<T: Logged> Turnstile<T> {
         let before = table.exchange(seat, SLOT, Some(value));
         let None = before else { unreachable!() };
         let served = table.fetch_add::<Advance>(seat, SERVED, 1);
-        if table.peek(NEXT).wrapping_sub(served) > 1 {
-            table.wake_all(SERVED);
-        }
+        self.call_in(served.wrapping_add(1));
+    }
+
+    /// Wakes the thread whose ticket is served, and the next one, which will then spin until its turn comes. Threads whose
+    /// tickets share these bells wake as well, and sleep again.
+    fn call_in(&self, serving: u64) {
+        self.bells.of(serving).notify_all();
+        self.bells.of(serving.wrapping_add(1)).notify_all();
     }
 }

@@ -4,6 +4,7 @@ ghost use Rattle.esa_turnstile.specs.Marks.{marked};
 ghost use Rattle.esa_turnstile.specs.Views.{dealing};
 ghost use Rattle.esa_turnstile.specs.Passes.{passes_of, tickets_of, opened_of, IsSeatOf, IsPassOf, IsNewPass, number_of};
 
+use super::bells::Bells;
 use super::{NoTurnstile, Opened, Turnstile};
 use crate::logged::Logged;
 use crate::pass::{Pass, Place};
@@ -48,7 +49,10 @@ impl<T: Logged> Turnstile<T> {
         slots.push_reserved(Some(value));
         match Table::new(alloc, &[0, 0], slots, &about) {
             Ok((table, mut seat)) => {
-                let turnstile = Turnstile { table };
+                let turnstile = Turnstile {
+                    table,
+                    bells: Bells::new(),
+                };
                 turnstile.deal_all(&mut seat, passes, &mut dealt);
                 Ok(Opened {
                     turnstile,
