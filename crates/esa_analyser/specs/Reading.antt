@@ -70,7 +70,3 @@ row_at bytes start = front_row (drop start bytes)
 -- each row lies inside of the file
 abbrev pub RowsInside : List ℕ → List ℕ → Type 0
 RowsInside bytes starts = All (λ start. start + row_length (drop start bytes) ≤ length bytes) starts
-
--- no row's value is longer than that
-abbrev pub AreShort : ℕ → List ℕ → List ℕ → Type 0
-AreShort longest bytes starts = All (λ start. slice_index (drop start bytes) 0 ≤ longest) starts

@@ -5,7 +5,7 @@ ghost use Rattle.esa_analyser.specs.declared.refused.DbRefused.TheVariants.{OutO
 ghost use Rattle.esa_params.specs.declared.form.Form.{Form};
 ghost use Rattle.esa_analyser.specs.Database.{Database};
 ghost use Rattle.esa_analyser.specs.Rows.{IsDatabase, database_bytes};
-ghost use Rattle.esa_analyser.specs.Reading.{rows_in, row_at, RowsInside, AreShort, database_in};
+ghost use Rattle.esa_analyser.specs.Reading.{rows_in, row_at, RowsInside, database_in};
 
 use crate::DbRefused;
 use crate::row::read_row;
@@ -18,7 +18,7 @@ use std::marker::Model;
 /// The length of the header of a database file, in bytes.
 const HEADER: usize = 13;
 
-/// A database, and the form that the version of its file carries.
+/// A database that a file can hold, and the form that the version of this file carries.
 ///
 /// The rows stand in the file's own bytes, so that a value can be lent.
 #[derive(Drop)]
@@ -30,17 +30,17 @@ pub struct Db {
 }
 
 impl Model for Db {
-    ghost use Rattle.std.specs.Prelude.{◌<◌, ◌^◌, length, map};
+    ghost use Rattle.std.specs.Prelude.{map};
     ghost use Rattle.esa_analyser.specs.Stored.{Stored};
 
     ghost Value = { Stored };
 
-    ghost use Rattle.esa_analyser.specs.Database.{longest};
-    ghost use Rattle.esa_analyser.specs.Reading.{row_at, RowsInside, AreShort};
+    ghost use Rattle.esa_analyser.specs.Reading.{row_at, RowsInside};
+    ghost use Rattle.esa_analyser.specs.Rows.{IsDatabase};
 
     ghost view = { λ db. record { form = db.form; database = record { rows = map (row_at db.bytes.items) db.starts.items; unopened = db.unopened } } };
 
-    ghost invariant = { λ db. RowsInside db.bytes.items db.starts.items × AreShort (longest db.form) db.bytes.items db.starts.items × (length db.starts.items < 2 ^ 32) };
+    ghost invariant = { λ db. RowsInside db.bytes.items db.starts.items × IsDatabase db.form (record { rows = map (row_at db.bytes.items) db.starts.items; unopened = db.unopened }) };
 }
 
 /// The places where the rows of a database file start, or the first test that a row fails.
@@ -55,7 +55,6 @@ fn read_rows(
         MatchResult result (λ starts. read ≡ Ok (map (row_at bytes.now) starts.items))
         (λ refused. (refused ≡ OutOfMemory) ⊎ (read ≡ Err refused)) }
     ensures inside { IfOk result (λ starts. RowsInside bytes.now starts.items) }
-    ensures short { IfOk result (λ starts. AreShort longest bytes.now starts.items) }
     ensures number { IfOk result (λ starts. length starts.items ≡ number) }
 {
     let mut starts = Vec::new(alloc);
@@ -122,7 +121,10 @@ pub fn read_db(alloc: Global, bytes: &[u8]) -> Result<Db, DbRefused>
 impl Db {
     /// The form that the version carries: One for version 1.
     pub fn form(&self) -> Form
-        ensures { result ≡ self.now.form }
+        ensures form { result ≡ self.now.form }
+
+        // A file of this form holds the database.
+        ensures holds { IsDatabase self.now.form self.now.database }
     {
         self.form
     }

@@ -12,7 +12,6 @@ ghost use Rattle.esa_command.specs.Stand.{stand};
 
 use crate::database::{DatabaseInput, take_job_and_database};
 use crate::lines::counted_line;
-use esa_analyser::write_db;
 use esa_command::settle_one;
 use esa_job::{Command, Job, JobField};
 use esa_outside::{Cabinet, Printer};
@@ -63,9 +62,8 @@ fn work_recover<K: Cabinet, P: Printer>(
         (stand K.told K.faults K.heard cabinet.old) (stand K.told K.faults K.heard cabinet.new)
         (stand P.told P.faults P.heard printer.old) (stand P.told P.faults P.heard printer.new) result }
 {
-    let db = recovered.db();
-    let saved = write_db(db.form(), db, cabinet, output);
-    let line = counted_line(db.rows(), db.unopened());
+    let saved = recovered.write(cabinet, output);
+    let line = counted_line(recovered.rows(), recovered.unopened());
     settle_one(saved, Sink::Output, printer, &line)
 }
 

@@ -192,7 +192,7 @@ fn recover(alloc: Global, load: &Load) -> Result<usize>
     };
     let mut cabinet = MemCabinet::make(Vec::new(alloc), Vec::new(alloc));
     ensure!(
-        write_db(Form::Two, recovered.db(), &mut cabinet, NAME).is_ok(),
+        recovered.write(&mut cabinet, NAME).is_ok(),
         "the database isn't written"
     );
     Ok(cabinet.file(NAME).context("no file")?.len())

@@ -1,7 +1,10 @@
 //! The database of what the rows of a database mean.
 
-ghost use Rattle.std.specs.Prelude.{◌≡◌, ◌<◌, ◌≤◌, ◌↔◌, ◌^◌, Err, IfOk, MatchResult, All, length};
-ghost use Rattle.esa_analyser.specs.Database.{Database, longest};
+ghost use Rattle.std.specs.Prelude.{◌≡◌, ◌<◌, ◌↔◌, ◌^◌, Err, IfOk, OnOk, OnErr, MatchResult, length};
+ghost use Rattle.esa_outside.specs.Cause.{HasCause};
+ghost use Rattle.esa_page.specs.Underway.{IsWhole, IsLeft};
+ghost use Rattle.esa_page.specs.Writing.{HasWritten, HasBroken};
+ghost use Rattle.esa_analyser.specs.Database.{Database};
 ghost use Rattle.esa_analyser.specs.Rows.{IsDatabase, database_bytes};
 ghost use Rattle.esa_params.specs.declared.form.Form.{Form};
 ghost use Rattle.esa_recovery.specs.Recovered.{recovered_database, total};
@@ -11,7 +14,8 @@ use crate::groups::groups_of;
 use crate::refused::RecoverRefused;
 use crate::spelled::spelled;
 use crate::tally::tally_of;
-use esa_analyser::{Db, read_db};
+use esa_analyser::{Db, read_db, write_db};
+use esa_outside::{Cabinet, Failed};
 use std::alloc::Global;
 use std::marker::Model;
 
@@ -23,13 +27,10 @@ pub struct Recovered {
 
 impl Model for Recovered {
     ghost use Rattle.esa_analyser.specs.Stored.{Stored};
-    ghost use Rattle.esa_analyser.specs.Rows.{IsDatabase};
 
     ghost Value = { Stored };
 
     ghost view = { λ recovered. recovered.db };
-
-    ghost invariant = { λ recovered. IsDatabase recovered.db.form recovered.db.database };
 }
 
 /// The sum of all counts and of the number unopened.
@@ -56,14 +57,14 @@ fn read(alloc: Global, bytes: &[u8]) -> Result<Recovered, RecoverRefused>
 
 /// The database of what the rows of a database mean, where the sum of all counts is no greater than a count may be.
 fn recovered_from(alloc: Global, db: &Db) -> Result<Recovered, RecoverRefused>
-    requires whole { IsDatabase db.now.form db.now.database }
-    requires fits { total db.now.database < 2 ^ 32 }
+    requires { total db.now.database < 2 ^ 32 }
     ensures { MatchResult result (λ recovered. recovered ≡ record { form = db.now.form; database = recovered_database db.now.database })
         (λ refused. refused ≡ OutOfMemory) }
 {
+    let form = db.form();
     let groups = groups_of(alloc, db)?;
     let tally = tally_of(alloc, db, &groups)?;
-    let bytes = spelled(alloc, db.form(), &tally.sums, db.unopened() + tally.lost)?;
+    let bytes = spelled(alloc, form, &tally.sums, db.unopened() + tally.lost)?;
     read(alloc, &bytes)
 }
 
@@ -71,7 +72,6 @@ impl Recovered {
     /// Puts the shares of a database together. It is refused exactly where the sum of all counts and of the number
     /// unopened passes 4,294,967,295, but for want of memory.
     pub fn make(alloc: Global, db: &Db) -> Result<Recovered, RecoverRefused>
-        requires { IsDatabase db.now.form db.now.database }
         ensures recovered { IfOk result (λ recovered. recovered ≡ record { form = db.now.form; database = recovered_database db.now.database }) }
 
         // No count is lost.
@@ -84,12 +84,33 @@ impl Recovered {
         recovered_from(alloc, db)
     }
 
-    /// The database, which a file of its version can hold.
-    pub fn db(&self) -> &Db
-        ensures same { result.now ≡ self.now }
-        ensures readable { IsDatabase result.now.form result.now.database }
-        ensures fits { All (λ row. length row.0 ≤ longest result.now.form) result.now.database.rows }
+    /// The number of rows.
+    pub fn rows(&self) -> u32
+        ensures { result ≡ length self.now.database.rows }
     {
-        &self.db
+        self.db.rows()
+    }
+
+    /// The number of reports that mean no value, or that were in envelopes which gave none.
+    pub fn unopened(&self) -> u32
+        ensures { result ≡ self.now.database.unopened }
+    {
+        self.db.unopened()
+    }
+
+    /// Writes the database as a file of its version. The file starts anew. It takes no memory.
+    pub fn write<K: Cabinet>(&self, cabinet: &mut K, name: &str) -> Result<(), Failed>
+        ensures whole { OnOk result (IsWhole (K.told cabinet.old) name.now (database_bytes self.now.form self.now.database) (K.told cabinet.new)) }
+
+        // A failed call leaves the file as it was, or a front of the whole file.
+        ensures left { OnErr result (IsLeft (K.told cabinet.old) name.now (database_bytes self.now.form self.now.database) (K.told cabinet.new)) }
+        ensures heard { OnOk result (HasWritten (K.heard cabinet.old) name.now (database_bytes self.now.form self.now.database) (K.heard cabinet.new)) }
+        ensures heard_broken { OnErr result (HasBroken (K.heard cabinet.old) name.now (database_bytes self.now.form self.now.database) (K.heard cabinet.new)) }
+        ensures cause { HasCause (K.faults cabinet.old) (K.faults cabinet.new) ⊥ result }
+
+        // It is a database that a file can hold, so `read_db` accepts what was written.
+        ensures readable { IsDatabase self.now.form self.now.database }
+    {
+        write_db(self.db.form(), &self.db, cabinet, name)
     }
 }

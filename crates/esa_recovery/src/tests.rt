@@ -2,7 +2,7 @@
 //! front of its SHA-256 by Python's hashlib.
 
 use crate::{RecoverRefused, Recovered};
-use esa_analyser::{read_db, write_db};
+use esa_analyser::read_db;
 use esa_outside::MemCabinet;
 use std::alloc::Global;
 use std::test::Fail;
@@ -42,12 +42,7 @@ fn recovered(alloc: Global, file: &[u8]) -> Result<Vec<u8>, Fail> {
     let db = read_db(alloc, file)?;
     let recovered = Recovered::make(alloc, &db)?;
     let mut cabinet = MemCabinet::make(Vec::new(alloc), Vec::new(alloc));
-    write_db(
-        recovered.db().form(),
-        recovered.db(),
-        &mut cabinet,
-        "database",
-    )?;
+    recovered.write(&mut cabinet, "database")?;
     Ok(cabinet.file("database").unwrap_or(b"").to_vec(alloc)?)
 }
 

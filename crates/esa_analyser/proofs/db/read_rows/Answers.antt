@@ -1,5 +1,4 @@
 use Rattle.std.proofs.Common.{◌≡◌, ◌+◌, ◌≤◌, ℕ, ◌∷◌, ◌++◌, [], length, drop, ap, arith, inr, length-append, length-drop}
-use Rattle.std.specs.Prelude.{slice_index}
 use Rattle.std.specs.Option.{option_map}
 use Rattle.std.proofs.lemmas.Result.{err_from_is_err_and}
 use Rattle.std.proofs.lemmas.List.Elements.{All-push, All-same}
@@ -23,12 +22,10 @@ loop-row-preserved c =
     let inside : start + row_length (drop start bytes) ≤ length bytes = omega (arith, length-drop start bytes, row.whole) in
     let pushed : c.push.new.self.items ≡ c.loop-row.starts.items ++ start ∷ [] = c.in_ok-push.ensures.items in
     let InsideAt = λ (place : ℕ). place + row_length (drop place bytes) ≤ length bytes in
-    let ShortAt = λ (place : ℕ). slice_index (drop place bytes) 0 ≤ c.args.longest in
     record {
       place = omega arith;
       number = omega (arith, ap length pushed, length-append c.loop-row.starts.items (start ∷ []), c.loop-row.invariant.number);
       inside = All-same InsideAt _ _ pushed (All-push InsideAt c.loop-row.starts.items start c.loop-row.invariant.inside inside);
-      short = All-same ShortAt _ _ pushed (All-push ShortAt c.loop-row.starts.items start c.loop-row.invariant.short row.short);
       read = reads_as c.args.longest bytes c.args.number (c.loop-row.row + 1) _ _ _ _ _ _ pushed (value_between bytes start c.in_ok-end.end ends) ends
           (reads_more c.args.longest bytes c.args.number c.loop-row.starts.items c.loop-row.row before start c.loop-row-test.true none c.loop-row.invariant.read);
     }
