@@ -15,7 +15,7 @@ ghost use Rattle.esa_gathering.specs.Together.{texts_of, all_lines, batched_toge
 use crate::together::{batch_together, line_total};
 use esa_batcher::{AddRefused, Batch, Batcher};
 use esa_bytes::split_line;
-use esa_intake::{Intake, OfferRefused, Sealed, Sender, Stand};
+use esa_intake::{Intake, OfferRefused, Sealed, Sender};
 use esa_line::LineRefused;
 use esa_params::{Form, MOST_RECORDS};
 use esa_refusal::Stop;

@@ -9,6 +9,3 @@ mod taking;
 mod together;
 
 pub use intake_command::{intake, intake_crew};
-
-#[cfg(test)]
-mod tests;

@@ -15,11 +15,9 @@ ghost use Rattle.esa_gathering.specs.Intake.{input_files};
 use esa_command::read_file;
 use esa_job::{Command, Job};
 use esa_outside::Cabinet;
+use esa_params::MOST_INPUTS;
 use esa_refusal::{Source, Stop};
 use std::alloc::Global;
-
-/// The most inputs that a job names.
-const MOST_INPUTS: usize = 16;
 
 /// Reads the input of this place, counted from 0.
 fn take_text<K: Cabinet>(

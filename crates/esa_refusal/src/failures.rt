@@ -34,7 +34,7 @@ impl Failures {
     pub fn made(&self) -> &[Verdict]
         ensures { result.now ≡ verdicts_of self.now }
     {
-        let count = usize::from(self.count).min(16);
+        let count = usize::from(self.count).min(self.verdicts.len());
         &self.verdicts[..count]
     }
 }

@@ -5,6 +5,9 @@ ghost use Rattle.esa_refusal.specs.Source.{role_of, limit_of, input_limit, role_
 
 use esa_job::Command;
 use esa_outside::Role;
+use esa_params::{
+    MOST_COINS_BYTES, MOST_JOB_BYTES, MOST_RECORD_BYTES, MOST_SUBMISSION_BYTES, MOST_TRACE_BYTES,
+};
 
 /// A file that a command reads, by its role.
 #[derive(Clone, Copy, PartialEq, Eq, Debug)]
@@ -38,8 +41,8 @@ impl Source {
         ensures { result ≡ limit_of command self }
     {
         match self {
-            Source::Job | Source::Keys | Source::Drops => 65_536,
-            Source::Turns | Source::Coins => 16_777_216,
+            Source::Job | Source::Keys | Source::Drops => MOST_JOB_BYTES,
+            Source::Turns | Source::Coins => MOST_COINS_BYTES,
             Source::Input | Source::Inputs(_) => most_input(command),
         }
     }
@@ -50,9 +53,9 @@ fn most_input(command: Command) -> u64
     ensures { result ≡ input_limit command }
 {
     match command {
-        Command::Batch | Command::Intake => 268_435_456,
-        Command::Audit => 67_108_864,
-        _ => 134_217_728,
+        Command::Batch | Command::Intake => MOST_SUBMISSION_BYTES,
+        Command::Audit => MOST_TRACE_BYTES,
+        _ => MOST_RECORD_BYTES,
     }
 }
 
