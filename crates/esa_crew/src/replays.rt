@@ -9,7 +9,7 @@ ghost use Rattle.esa_floor.specs.Keeping.{HoldsAfter, QueuesHold, QueuesHoldAfte
 ghost use Rattle.esa_floor.specs.Marks.{roots_of};
 ghost use Rattle.esa_floor.specs.Standing.{Stands, attempt_begun, turns_made};
 ghost use Rattle.esa_floor.specs.Working.{Working};
-ghost use Rattle.esa_floor.specs.Written.{EachTookItsBlock, ReadsGaveTheirBlocks, WritesFailed};
+ghost use Rattle.esa_floor.specs.Written.{EachTookItsBlock, FailedByStop, ReadsGaveTheirBlocks};
 ghost use Rattle.esa_report.specs.declared.item.Item.{Item};
 ghost use Rattle.esa_crew.specs.Posts.{AllHold, ArePosts, IsPost, KeepsRecords, OthersHoldAfter};
 ghost use Rattle.esa_crew.specs.Replays.{IsReplayed};
@@ -44,7 +44,7 @@ fn step<V: Device, G: Told, C: Coins>(floor: &mut Floor<V, G>, worker: &mut Work
     ensures took { (record_of : ℕ → Item) → KeepsRecords G.draws floor.old worker.old → EachTookItsBlock G.draws record_of floor.old
         → EachTookItsBlock G.draws record_of floor.new }
     ensures log { Begins floor.old.recorder.log floor.new.recorder.log }
-    ensures writes { WritesFailed floor.old.stop floor.old.recorder.log → WritesFailed floor.new.stop floor.new.recorder.log }
+    ensures failed { FailedByStop floor.old.stop floor.old.recorder.log → FailedByStop floor.new.stop floor.new.recorder.log }
     ensures reads { ReadsGaveTheirBlocks G.draws floor.old → ReadsGaveTheirBlocks G.draws floor.new }
     ensures stops { floor.new.stop ≢ None → StopsAfter V.faults G.draws (turns_made floor.old) floor.new }
     ensures queues_before { floor.new.stop ≢ None → QueuesHold G.draws floor.old → QueuesHoldAfter G.draws (turns_made floor.old) floor.new }
@@ -83,7 +83,7 @@ fn step_of<V: Device, G: Told, C: Coins>(
     ensures took { (record_of : ℕ → Item) → AllHold G.draws floor.old workers.old → EachTookItsBlock G.draws record_of floor.old
         → EachTookItsBlock G.draws record_of floor.new }
     ensures log { Begins floor.old.recorder.log floor.new.recorder.log }
-    ensures writes { WritesFailed floor.old.stop floor.old.recorder.log → WritesFailed floor.new.stop floor.new.recorder.log }
+    ensures failed { FailedByStop floor.old.stop floor.old.recorder.log → FailedByStop floor.new.stop floor.new.recorder.log }
     ensures reads { ReadsGaveTheirBlocks G.draws floor.old → ReadsGaveTheirBlocks G.draws floor.new }
     ensures stops { floor.new.stop ≢ None → StopsAfter V.faults G.draws (turns_made floor.old) floor.new }
     ensures queues_before { floor.new.stop ≢ None → QueuesHold G.draws floor.old → QueuesHoldAfter G.draws (turns_made floor.old) floor.new }
@@ -130,7 +130,7 @@ pub fn replay<V: Device, G: Told, C: Coins>(
     ensures took { (record_of : ℕ → Item) → AllHold G.draws floor.old workers.old → QueuesHold G.draws floor.old → EachTookItsBlock G.draws record_of floor.old
         → EachTookItsBlock G.draws record_of floor.new }
     ensures log { Begins floor.old.recorder.log floor.new.recorder.log }
-    ensures writes { WritesFailed floor.old.stop floor.old.recorder.log → WritesFailed floor.new.stop floor.new.recorder.log }
+    ensures failed { FailedByStop floor.old.stop floor.old.recorder.log → FailedByStop floor.new.stop floor.new.recorder.log }
     ensures reads { ReadsGaveTheirBlocks G.draws floor.old → ReadsGaveTheirBlocks G.draws floor.new }
     ensures stops { floor.new.stop ≢ None → (before : List ℕ) × StopsAfter V.faults G.draws before floor.new
         × (AllHold G.draws floor.old workers.old → QueuesHold G.draws floor.old → SlotsHold G.draws floor.old

@@ -1,16 +1,18 @@
 -- A log that grows, and what stands in the slots then.
 use Rattle.std.proofs.Common.{◌≡◌, ◌≢◌, ℕ, zero, suc, ◌<◌, true, false, ◌&&◌, ◌==◌, List, [], ◌∷◌, ◌++◌, length, map, Option, Some, None, Result, Ok, Err, refl, sym, ap, ◌∙◌, subst, arith, inl, inr, ◌⊎◌, length-append, append_assoc}
-use Rattle.std.specs.Prelude.{find, slice_get, slice_set, if◌then◌else◌, OnOk, OnErr}
+use Rattle.std.specs.Prelude.{Bool, find, is_some, not, reverse, slice_get, slice_set, unwrap_or, if◌then◌else◌, OnOk, OnErr}
+use Rattle.std.specs.Option.{option_map_or}
 use Rattle.std.proofs.lemmas.Bool.{cases_Bool}
 use Rattle.std.proofs.lemmas.Bool.Decides.{nat_tests}
 use Rattle.std.proofs.lemmas.List.{map-append, reverse-append}
 use Rattle.esa_params.specs.Slots.{slot_number, is_writing, writes_number}
 use Rattle.esa_params.specs.Sizes.{Sizes}
 use Rattle.esa_params.specs.declared.slot.Access.{Access}
+use Rattle.esa_params.specs.declared.slot.Op.{Op}
 use Rattle.esa_params.specs.declared.slot.Op.TheVariants.{Read, Write}
 use Rattle.esa_device.specs.Blocks.{ChangesBlock}
 use Rattle.esa_device.specs.Recording.{Names, number_in}
-use Rattle.esa_device.specs.Logs.{Carried, Gave, HoldsWritten, IsBacked, IsFaithful, Took, carried_by, latest_carried}
+use Rattle.esa_device.specs.Logs.{Carried, Gave, HoldsWritten, IsBacked, IsFaithful, Took, carried_by, has_given, last_given, latest_carried}
 
 -- a beginning of a faithful log is faithful
 pub faithful-front : (p : Sizes) (log more : List Carried) → IsFaithful p (log ++ more) → IsFaithful p log
@@ -264,6 +266,46 @@ backed-empty (Some p) told = λ blocks is. (
   λ number bytes took. absurd (nothing-took p number bytes took),
   λ before after entry given written whole gave took. absurd (nothing_left entry after before whole),
 )
+
+-- by whether the last access is a read that didn't fail
+given-push : (log : List Carried) (last : Carried) → last_given (log ++ last ∷ []) ≡ (if has_given last then unwrap_or last.bytes [] else last_given log)
+given-push log last =
+    ap (λ (xs : List Carried). option_map_or (λ (entry : Carried). unwrap_or entry.bytes []) (find has_given xs) []) (reverse-append log (last ∷ []))
+    ∙ by_last (has_given last)
+  where
+    by_last : (gives : Bool) → option_map_or (λ (entry : Carried). unwrap_or entry.bytes []) (if gives then Some last else find has_given (reverse log)) []
+        ≡ (if gives then unwrap_or last.bytes [] else last_given log)
+    by_last true = refl
+    by_last false = refl
+
+-- an access that is named asks for what it is named for
+pub asks : (op : Op) (plan : Option Sizes) (access : Access) (n : ℕ) → Names op plan access n → access.op ≡ op
+asks op None access n named = absurd named
+asks op (Some p) access n named = named.asks
+
+-- a read that didn't fail gave its bytes last, and one that failed gives nothing
+pub given-read : {T E : Type 0} (log : List Carried) (access : Access) (result : Result T E) (value : T) (bytes : List ℕ) → result ≡ Ok value → access.op ≡ Read
+    → last_given (log ++ carried_by access result bytes ∷ []) ≡ bytes
+given-read {T} {E} log access result value bytes is reads =
+    ap (λ (r : Result T E). last_given (log ++ carried_by access r bytes ∷ [])) is
+    ∙ given-push log (record { access = access; bytes = Some bytes })
+    ∙ ap (λ (op : Op). if not (is_writing op) && true then bytes else last_given log) reads
+
+pub given-failed : {T E : Type 0} (log : List Carried) (access : Access) (result : Result T E) (failure : E) (bytes : List ℕ) → result ≡ Err failure → access.op ≡ Read
+    → last_given (log ++ carried_by access result bytes ∷ []) ≡ last_given log
+given-failed {T} {E} log access result failure bytes is reads =
+    ap (λ (r : Result T E). last_given (log ++ carried_by access r bytes ∷ [])) is
+    ∙ given-push log (record { access = access; bytes = None })
+    ∙ ap (λ (op : Op). if not (is_writing op) && false then [] else last_given log) reads
+
+-- a write gives nothing
+pub given-write : {T E : Type 0} (log : List Carried) (access : Access) (result : Result T E) (bytes : List ℕ) → access.op ≡ Write
+    → last_given (log ++ carried_by access result bytes ∷ []) ≡ last_given log
+given-write log access result bytes writes =
+    let last = carried_by access result bytes in
+    given-push log last
+    ∙ ap (λ (op : Op). if not (is_writing op) && is_some last.bytes then unwrap_or last.bytes [] else last_given log)
+    (ap (λ (a : Access). a.op) (access-carried access result bytes) ∙ writes)
 
 -- the log is of the accesses
 pub accesses-push : {T E : Type 0} (log : List Carried) (trace : List Access) (access : Access) (result : Result T E) (bytes : List ℕ)

@@ -1,7 +1,8 @@
 -- What accesses carried, and when a log of it is faithful. Only proofs read a log.
-use Rattle.std.specs.Prelude.{◌≡◌, ℕ, List, ◌∷◌, ◌++◌, find, reverse, slice_get, Option, Some, None, Result, Ok, Err}
+use Rattle.std.specs.Prelude.{◌≡◌, ◌≢◌, ℕ, ◌&&◌, Bool, List, [], ◌∷◌, ◌++◌, All, find, reverse, slice_get, Option, Some, None, Result, Ok, Err, is_some, not, unwrap_or}
+use Rattle.std.specs.Option.{option_map_or}
 use Rattle.esa_params.specs.Sizes.{Sizes}
-use Rattle.esa_params.specs.Slots.{slot_number, writes_number}
+use Rattle.esa_params.specs.Slots.{is_writing, slot_number, writes_number}
 use Rattle.esa_params.specs.declared.slot.Access.{Access}
 use Rattle.esa_params.specs.declared.slot.Op.TheVariants.{Read}
 
@@ -30,6 +31,25 @@ Took p number bytes log = (write : Access) × (latest_carried p number log ≡ S
 -- a read that didn't fail gave these bytes
 abbrev pub Gave : Carried → List ℕ → Type 0
 Gave entry bytes = (entry.access.op ≡ Read) × (entry.bytes ≡ Some bytes)
+
+-- an entry is of a read that didn't fail
+abbrev pub has_given : Carried → Bool
+has_given entry = not (is_writing entry.access.op) && is_some entry.bytes
+
+-- what the last read of the log that didn't fail gave, or no bytes where there was none
+abbrev pub last_given : List Carried → List ℕ
+last_given log = option_map_or (λ (entry : Carried). unwrap_or entry.bytes []) (find has_given (reverse log)) []
+
+-- no access of the log failed
+abbrev pub NoneFailed : List Carried → Type 0
+NoneFailed log = All (λ (entry : Carried). entry.bytes ≢ None) log
+
+-- the last access of the log failed, and no other
+pub record OnlyLastFailed (log : List Carried) : Type 0 where
+  pub before : List Carried
+  pub access : Access
+  pub is : log ≡ before ++ record { access = access; bytes = None } ∷ []
+  pub none : NoneFailed before
 
 -- each read gave the bytes that the latest write of its slot took. Where that write failed or there was none, any bytes
 -- will do

@@ -5,7 +5,7 @@ use Rattle.esa_params.specs.Slots.{IsPlanned, number_of, block_length}
 use Rattle.esa_params.specs.declared.slot.Access.{Access}
 use Rattle.esa_params.specs.declared.slot.Op.{Op}
 use Rattle.esa_params.specs.declared.slot.Slot.{Slot}
-use Rattle.esa_device.specs.Logs.{Carried, IsBacked}
+use Rattle.esa_device.specs.Logs.{Carried, IsBacked, last_given}
 
 -- the device, the accesses that were made of it and what they carried, the plan that it is ready for, how many accesses
 -- may still be made, and the bytes of the last read
@@ -43,10 +43,12 @@ abbrev pub IsReady : Option Sizes → Option Sizes → ℕ → Type 0
 IsReady None laid room = Unit {0}
 IsReady (Some plan) laid room = (laid ≡ Some plan) × ((slot : Slot) → IsPlanned plan slot → block_length plan slot ≤ room)
 
--- the device was called for the accesses of the trace and for nothing else, and the log is of these accesses
-pub record IsKept (plan laid : Option Sizes) (calls : ℕ) (told : Option (List (List ℕ))) (trace : List Access) (log : List Carried) (last room : ℕ) : Type 0 where
+-- the device was called for the accesses of the trace and for nothing else, the log is of these accesses, and the bytes that
+-- are kept are those that its last read gave
+pub record IsKept (plan laid : Option Sizes) (calls : ℕ) (told : Option (List (List ℕ))) (trace : List Access) (log : List Carried) (last : List ℕ) (kept room : ℕ) : Type 0 where
   pub ready : IsReady plan laid room
   pub counted : calls ≡ length trace
   pub logged : map (λ (entry : Carried). entry.access) log ≡ trace
   pub backed : IsBacked plan told log
-  pub fits : last ≤ room
+  pub gave : last ≡ last_given log
+  pub fits : kept ≤ room

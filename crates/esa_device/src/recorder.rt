@@ -6,7 +6,7 @@ ghost use Rattle.esa_bytes.specs.Field.{u64_in};
 ghost use Rattle.esa_outside.specs.Cause.{HasCause};
 ghost use Rattle.esa_device.specs.Blocks.{HasBlock, zero_blocks, ChangesBlock};
 ghost use Rattle.esa_device.specs.Laying.{Counted};
-ghost use Rattle.esa_device.specs.Logs.{Carried, IsBacked, carried_by};
+ghost use Rattle.esa_device.specs.Logs.{Carried, IsBacked, carried_by, last_given};
 ghost use Rattle.esa_device.specs.Recording.{Names, number_in};
 
 use crate::log::{Carried, after};
@@ -44,7 +44,7 @@ impl<V: Device> Model for Recorder<V> {
 
     ghost view = { λ a. record { device = a.device; trace = a.trace.items; log = a.log.entries; plan = a.plan; room = vec_capacity a.trace - vec_len a.trace; last = take a.kept a.block.items } };
 
-    ghost invariant = { λ a. IsKept a.plan (V.laid a.device) (V.calls a.device) (V.told a.device) a.trace.items a.log.entries a.kept (length a.block.items) };
+    ghost invariant = { λ a. IsKept a.plan (V.laid a.device) (V.calls a.device) (V.told a.device) a.trace.items a.log.entries (take a.kept a.block.items) a.kept (length a.block.items) };
 }
 
 impl<V: Device> Recorder<V> {
@@ -173,11 +173,12 @@ impl<V: Device> Recorder<V> {
         &self.trace
     }
 
-    /// What it keeps of its log: an entry for each access, in order. Over a device that tells, each slot holds what its
-    /// latest write took, and the log is faithful. It does nothing when it runs.
+    /// What it keeps of its log: an entry for each access, in order, and the bytes that the last read gave. Over a device
+    /// that tells, each slot holds what its latest write took, and the log is faithful. It does nothing when it runs.
     pub fn keeps_its_log(&self)
         ensures accesses { map (λ (entry : Carried). entry.access) self.now.log ≡ self.now.trace }
         ensures backed { IsBacked self.now.plan (V.told self.now.device) self.now.log }
+        ensures gave { self.now.last ≡ last_given self.now.log }
     {
         let _ = &self.log;
     }

@@ -1,5 +1,5 @@
 -- The accesses of turns that were cut short.
-use Rattle.std.proofs.Common.{◌≡◌, ◌≢◌, inl, arith, ℕ, zero, suc, ◌+◌, ◌<◌, length, map, Bool, true, false, cond, List, [], ◌∷◌, ◌++◌, take, drop, refl, sym, ◌∙◌, ap, subst, append-nil}
+use Rattle.std.proofs.Common.{◌≡◌, ℕ, zero, suc, ◌+◌, ◌<◌, length, map, Bool, true, false, cond, List, [], ◌∷◌, ◌++◌, take, drop, refl, sym, ◌∙◌, ap, subst, append-nil}
 use Rattle.std.specs.Prelude.{Option, Some, None}
 use Rattle.std.proofs.lemmas.List.{take-append-drop}
 use Rattle.esa_params.specs.Sizes.{Sizes, below}
@@ -11,7 +11,7 @@ use Rattle.esa_spec.specs.Traces.{spread, rest, drain, attempt_trace, is_failed,
 use Rattle.esa_spec.specs.Turns.{order}
 use Rattle.esa_spec.specs.Verdicts.{failing, is_finished, is_good, left, verdict}
 use Rattle.esa_ending.specs.Endings.{Succeeds, Overflows, IsCutAt}
-use Rattle.esa_ending.specs.Seen.{Seen, IsCalm, stored, HasHistory, AreCut, NoTurnBehind, last_begun, turns_in, verdict_in}
+use Rattle.esa_ending.specs.Seen.{Seen, IsCalm, stored, HasHistory, AreCut, verdict_in}
 use Rattle.esa_spec.specs.Fronts.{Begins, EndsWith}
 use Rattle.esa_ending.proofs.FrontLaws.{behind, joined-front, onward, whole}
 
@@ -88,20 +88,6 @@ cut-behind (h ∷ []) (suc zero) = ([], sym (append-nil h))
 cut-behind (h ∷ []) (suc (suc m)) = ([], sym (append-nil h))
 cut-behind (h ∷ other ∷ hs) (suc zero) = ([], sym (append-nil h))
 cut-behind (h ∷ other ∷ hs) (suc (suc m)) = (refl, cut-behind (other ∷ hs) (suc m))
-
--- lists that are whole have no turn behind the last access
-nth-taken : (hs : List (List ℕ)) (m k : ℕ) → k < length (take m hs) → turns_in (take m hs) k ≡ turns_in hs k
-nth-taken hs zero k inside = absurd (omega (arith, inside))
-nth-taken [] (suc m) k inside = absurd (omega (arith, inside))
-nth-taken (h ∷ hs) (suc m) zero inside = refl
-nth-taken (h ∷ hs) (suc m) (suc k) inside = nth-taken hs m k (omega (arith, inside))
-
-pub none-behind : (p : Sizes) (hs : List (List ℕ)) (m : ℕ) (access : Access) → NoTurnBehind p (take m hs) hs access
-none-behind p hs m access some = inl (nth-taken hs m (last_begun (take m hs)) (last-in (take m hs) some))
-  where
-    last-in : (made : List (List ℕ)) → made ≢ [] → last_begun made < length made
-    last-in [] there = absurd (there refl)
-    last-in (h ∷ made) there = omega arith
 
 -- attempts that all failed
 all-fail : (p : Sizes) (ds : ℕ → Draw) (a : ℕ) (hs : List (List ℕ)) (o : Option ℕ) → good_attempt p ds a hs ≡ o → all_failed p ds a hs ≡ true → o ≡ None
@@ -218,21 +204,20 @@ module _ (p : Sizes) (ds : ℕ → Draw) (hs : List (List ℕ)) (seen : Seen) wh
         calm = calm;
       }
 
-  pub cut-at : (access : Access) → HasHistory p seen → AreCut (stored p seen) hs → NoTurnBehind p (stored p seen) hs access → EndsWith seen.trace access
+  pub cut-at : (access : Access) → HasHistory p seen → AreCut (stored p seen) hs → EndsWith seen.trace access
       → Begins seen.trace (trace p ds (stored p seen)) → IsCutAt p ds hs seen access
-  cut-at access history cut none last told =
+  cut-at access history cut last told =
       record {
         front = onward seen.trace (trace p ds (stored p seen)) (trace p ds hs) told (trace-front p ds (stored p seen) hs cut);
         last = last;
         turns = cut;
         of_stored = told;
-        none_behind = none;
         history = history;
       }
 
-  pub cut-in-shuffle : (access : Access) → HasHistory p seen → AreCut (stored p seen) hs → NoTurnBehind p (stored p seen) hs access → EndsWith seen.trace access
+  pub cut-in-shuffle : (access : Access) → HasHistory p seen → AreCut (stored p seen) hs → EndsWith seen.trace access
       → Begins seen.trace (shuffle_trace p ds (stored p seen)) → IsCutAt p ds hs seen access
-  cut-in-shuffle access history cut none last front =
+  cut-in-shuffle access history cut last front =
       let made = shuffle_trace p ds (stored p seen) in
-      cut-at access history cut none last
+      cut-at access history cut last
       (onward seen.trace made (trace p ds (stored p seen)) front (joined-front made (scans p (good_attempt p ds 0 (stored p seen)))))

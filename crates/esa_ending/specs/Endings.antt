@@ -10,7 +10,7 @@ use Rattle.esa_spec.specs.Draws.{Draw}
 use Rattle.esa_spec.specs.Traces.{all_failed, good_attempt, trace, written_input}
 use Rattle.esa_spec.specs.Turns.{order}
 use Rattle.esa_spec.specs.declared.event.Verdict.{Verdict}
-use Rattle.esa_ending.specs.Seen.{Seen, Rises, Stays, IsCalm, stored, HasHistory, AreCut, NoTurnBehind, turns_in, verdict_in, come_out}
+use Rattle.esa_ending.specs.Seen.{Seen, Rises, Stays, IsCalm, stored, HasHistory, AreCut, turns_in, verdict_in, come_out}
 use Rattle.esa_spec.specs.Fronts.{Begins, EndsWith, items_in}
 
 -- attempt a succeeds: it is the first that is finished and good
@@ -47,7 +47,6 @@ pub record IsCutAt (p : Sizes) (ds : ℕ → Draw) (hs : List (List ℕ)) (seen 
   -- the stored turns were cut short too, and each access that was made is one of theirs
   pub turns : AreCut (stored p seen) hs
   pub of_stored : Begins seen.trace (trace p ds (stored p seen))
-  pub none_behind : NoTurnBehind p (stored p seen) hs access
   pub history : HasHistory p seen
 
 -- the device failed at the last access, which is to the slot of this number

@@ -1,8 +1,12 @@
 -- What is seen of a run, and the words in which its ends are told.
-use Rattle.std.specs.Prelude.{◌≡◌, ◌≢◌, ◌⊎◌, ℕ, ◌-◌, ◌<◌, List, [], ◌∷◌, ◌++◌, filter_map, flat_map, length, slice_get, slice_index_or, Some}
+use Rattle.std.specs.Prelude.{◌≡◌, ℕ, ◌+◌, ◌<◌, Bool, true, false, List, [], ◌∷◌, ◌++◌, filter_map, flat_map, length, slice_get, slice_index_or, take, Some}
 use Rattle.esa_outside.specs.Cause.{Rose}
 use Rattle.esa_params.specs.Sizes.{Sizes}
 use Rattle.esa_params.specs.declared.slot.Access.{Access}
+use Rattle.esa_params.specs.declared.slot.Op.{Op}
+use Rattle.esa_params.specs.declared.slot.Op.TheVariants.{Read, Write}
+use Rattle.esa_params.specs.declared.slot.Region.{Region}
+use Rattle.esa_params.specs.declared.slot.Region.TheVariants.{Input, Mid}
 use Rattle.esa_spec.specs.Draws.{Draw}
 use Rattle.esa_spec.specs.Fronts.{Begins}
 use Rattle.esa_spec.specs.Histories.{lists}
@@ -67,15 +71,33 @@ pub record EndsWithTurn (p : Sizes) (a : ℕ) (h : List ℕ) (access : Access) :
   pub turns : h ≡ before ++ worker ∷ []
   pub made : asked p a (next p.b before worker) ≡ Some access
 
--- the attempt that was begun last, by the turns that were stored
-abbrev pub last_begun : List (List ℕ) → ℕ
-last_begun made = length made - 1
+-- the turns of the attempts up to that of this access were stored, and the last of them made it
+abbrev pub EndWithTurn : Sizes → List (List ℕ) → Access → Type 0
+EndWithTurn p made access = (length made ≡ access.attempt + 1) × EndsWithTurn p access.attempt (turns_in made access.attempt) access
 
--- no turn was stored behind the one that made the last access: all turns of the attempt that was begun last were
--- stored, or the last one that was stored made that access
-abbrev pub NoTurnBehind : Sizes → List (List ℕ) → List (List ℕ) → Access → Type 0
-NoTurnBehind p made hs access =
-    made ≢ [] → (turns_in made (last_begun made) ≡ turns_in hs (last_begun made)) ⊎ EndsWithTurn p (last_begun made) (turns_in made (last_begun made)) access
+-- the turns that were stored, by the operation and the region of the access that cut the run: a write of the input was made
+-- before any turn, and a read of the input or a write of Mid by the last one. Each other access comes behind all turns of
+-- its attempt
+abbrev pub EndBy : Op → Region → Sizes → (made hs : List (List ℕ)) → Access → Type 0
+EndBy Write Input p made hs access = made ≡ []
+EndBy Write Mid p made hs access = EndWithTurn p made access
+EndBy Read Input p made hs access = EndWithTurn p made access
+EndBy op region p made hs access = made ≡ take (access.attempt + 1) hs
+
+-- the stored turns of a run that took the turns hs one after another end with this access, which cut it
+abbrev pub HistoryEnds : Sizes → (made hs : List (List ℕ)) → Access → Type 0
+HistoryEnds p made hs access = EndBy access.op access.region p made hs access
+
+-- neither the load nor a turn makes such accesses
+abbrev pub is_behind : Op → Region → Bool
+is_behind Write Input = false
+is_behind Write Mid = false
+is_behind Read Input = false
+is_behind op region = true
+
+-- the access comes behind the turns of attempt a
+abbrev pub IsBehind : ℕ → Access → Type 0
+IsBehind a access = (access.attempt ≡ a) × (is_behind access.op access.region ≡ true)
 
 -- how attempt a ends
 abbrev pub verdict_in : Sizes → (ℕ → Draw) → List (List ℕ) → ℕ → Verdict

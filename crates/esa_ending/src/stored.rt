@@ -2,7 +2,7 @@
 
 ghost use Rattle.std.specs.Prelude.{◌≡◌, ℕ, ◌+◌, ◌<◌, true, Some, List, [], ◌++◌, length, map, take};
 ghost use Rattle.esa_ending.specs.Endings.{Succeeds, Overflows, IsCutAt, BatchFails};
-ghost use Rattle.esa_ending.specs.Seen.{Seen, Rises, Stays, IsCalm, stored, HasHistory, AreCut, NoTurnBehind, verdict_in};
+ghost use Rattle.esa_ending.specs.Seen.{Seen, Rises, Stays, IsCalm, stored, HasHistory, AreCut, verdict_in};
 ghost use Rattle.esa_spec.specs.Fronts.{Begins, EndsWith};
 ghost use Rattle.esa_params.specs.Sizes.{Sizes, below};
 ghost use Rattle.esa_params.specs.declared.slot.Access.{Access};
@@ -17,7 +17,6 @@ pub fn cut_turns_make_a_front()
         → Begins (shuffle_trace p ds made) (shuffle_trace p ds hs) }
     ensures whole { (hs : List (List ℕ)) → AreCut hs hs }
     ensures attempts { (hs : List (List ℕ)) (m : ℕ) → AreCut (take m hs) hs }
-    ensures none_behind { (p : Sizes) (hs : List (List ℕ)) (m : ℕ) (access : Access) → NoTurnBehind p (take m hs) hs access }
 {}
 
 /// The turns of the attempts up to the one that succeeds make all accesses: those of the shuffle, and two scans of its
@@ -43,10 +42,10 @@ pub fn endings_of_stored_turns()
         → IsCalm seen → length hs ≡ p.attempts → stored p seen ≡ hs → all_failed p ds 0 (stored p seen) ≡ true → seen.trace ≡ shuffle_trace p ds (stored p seen)
         → Overflows p ds hs seen (map (verdict_in p ds hs) (below p.attempts)) }
     ensures cut { (p : Sizes) (ds : ℕ → Draw) (hs : List (List ℕ)) (seen : Seen) (access : Access) → HasHistory p seen
-        → AreCut (stored p seen) hs → NoTurnBehind p (stored p seen) hs access → EndsWith seen.trace access → Begins seen.trace (trace p ds (stored p seen))
+        → AreCut (stored p seen) hs → EndsWith seen.trace access → Begins seen.trace (trace p ds (stored p seen))
         → IsCutAt p ds hs seen access }
     ensures cut_in_shuffle { (p : Sizes) (ds : ℕ → Draw) (hs : List (List ℕ)) (seen : Seen) (access : Access) → HasHistory p seen
-        → AreCut (stored p seen) hs → NoTurnBehind p (stored p seen) hs access → EndsWith seen.trace access → Begins seen.trace (shuffle_trace p ds (stored p seen))
+        → AreCut (stored p seen) hs → EndsWith seen.trace access → Begins seen.trace (shuffle_trace p ds (stored p seen))
         → IsCutAt p ds hs seen access }
     ensures cut_in_load { (p : Sizes) (seen : Seen) → HasHistory p seen → Rises seen.batch → Stays seen.device
         → stored p seen ≡ [] → Begins seen.trace (load p) → length seen.trace < p.b

@@ -12,7 +12,7 @@ use Rattle.esa_spec.specs.Draws.{Draw}
 use Rattle.esa_floor.specs.Keeping.{QueuesHold, SlotsHold}
 use Rattle.esa_floor.specs.Parts.{Parts}
 use Rattle.esa_floor.specs.Standing.{Stands}
-use Rattle.esa_floor.specs.Written.{AreItems, EachTookItsBlock, ReadsGaveTheirBlocks, WritesFailed}
+use Rattle.esa_floor.specs.Written.{AreItems, EachTookItsBlock, FailedByStop, ReadsGaveTheirBlocks}
 
 abbrev pub op_code : Op → ℕ
 op_code Read = 0
@@ -37,12 +37,12 @@ abbrev pub trail_of : {V : Type 0} → Parts V → List (List ℕ)
 trail_of f = map entry_text f.recorder.log
 
 -- the floor stands, its log has an entry for each access, and its queues and slots hold the records of the input. Each write
--- took its block, and none failed but the last access, where the turns have stopped at it. So each read gave its block
+-- took its block, and no access failed but the last one, where the turns have stopped at it. So each read gave its block
 pub record IsKept {V : Type 0} (faults : V → ℕ) (p : Sizes) (ds : ℕ → Draw) (f : Parts V) : Type 0 where
   pub stands : Stands faults p ds f
   pub logged : map (λ (entry : Carried). entry.access) f.recorder.log ≡ f.recorder.trace
   pub queues : QueuesHold ds f
   pub slots : SlotsHold ds f
   pub took : (record_of : ℕ → Item) → AreItems (item_length p.form) record_of → EachTookItsBlock ds record_of f
-  pub writes : WritesFailed f.stop f.recorder.log
+  pub failed : FailedByStop f.stop f.recorder.log
   pub reads : ReadsGaveTheirBlocks ds f

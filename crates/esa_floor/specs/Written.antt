@@ -1,7 +1,7 @@
 -- What the writes of a run took, of every attempt: the seals of the records of their blocks. And what its reads gave:
 -- blocks that open.
 use Rattle.std.specs.Prelude.{◌≡◌, ◌≢◌, ℕ, ◌+◌, ◌/◌, ◌%◌, ◌<◌, ◌≤◌, ◌==◌, true, List, [], ◌∷◌, ◌++◌, All, Option, Some, None, Result, Ok, Err, count_by, length, map, slice_index_or}
-use Rattle.esa_device.specs.Logs.{Carried, latest_carried}
+use Rattle.esa_device.specs.Logs.{Carried, NoneFailed, OnlyLastFailed, latest_carried}
 use Rattle.esa_envelope.specs.declared.keys.Keys.{Keys}
 use Rattle.esa_params.specs.Sizes.{Sizes}
 use Rattle.esa_params.specs.Slots.{IsPlanned, at, item_length, number_of}
@@ -132,18 +132,9 @@ EachGaveItsBlock ds f = All (GaveItsOwn ds f) f.recorder.log
 abbrev pub ReadsGaveTheirBlocks : {V : Type 0} → (ℕ → Draw) → Parts V → Type 0
 ReadsGaveTheirBlocks ds f = ReadsGave (GaveItsOwn ds f) f.stop f.recorder.log
 
--- no write of the log failed
-abbrev pub NoWriteFailed : List Carried → Type 0
-NoWriteFailed log = All (λ (entry : Carried). entry.access.op ≡ Writes → entry.bytes ≢ None) log
-
--- no write of the log failed, unless it is the last access
-abbrev pub OnlyLastFailed : List Carried → Type 0
-OnlyLastFailed log =
-    (before after : List Carried) (entry : Carried) → log ≡ before ++ entry ∷ after → entry.access.op ≡ Writes → entry.bytes ≡ None → after ≡ []
-
--- which writes failed, by the stop that there is after them
-abbrev pub WritesFailed : Option Stop → List Carried → Type 0
-WritesFailed None log = NoWriteFailed log
-WritesFailed (Some (DeviceFault number)) log = OnlyLastFailed log
-WritesFailed (Some (Tampered number)) log = NoWriteFailed log
-WritesFailed (Some (StashOverflow j)) log = NoWriteFailed log
+-- which accesses failed, by the stop that there is after them: none, or the last one, where the stop is that the device failed
+abbrev pub FailedByStop : Option Stop → List Carried → Type 0
+FailedByStop None log = NoneFailed log
+FailedByStop (Some (DeviceFault number)) log = OnlyLastFailed log
+FailedByStop (Some (Tampered number)) log = NoneFailed log
+FailedByStop (Some (StashOverflow j)) log = NoneFailed log

@@ -16,7 +16,7 @@ ghost use Rattle.esa_floor.specs.Logging.{noted_of, read_of, write_of};
 ghost use Rattle.esa_floor.specs.Marks.{mark_of, roots_of};
 ghost use Rattle.esa_floor.specs.Workers.{IsInRound, IsOfFloor, WorkerStands, moved};
 ghost use Rattle.esa_floor.specs.Working.{IsReady, Working, handed_by, passed};
-ghost use Rattle.esa_floor.specs.Written.{EachTookItsBlock, ReadsGaveTheirBlocks, WritesFailed};
+ghost use Rattle.esa_floor.specs.Written.{EachTookItsBlock, FailedByStop, ReadsGaveTheirBlocks};
 ghost use Rattle.esa_floor.specs.Parts.{begun_as, count_at, ended_as, no_counts, nothing_counted, with_entry};
 ghost use Rattle.esa_floor.specs.Standing.{IsAtWork, Stands, StopsAt, attempt_begun, turns_made};
 
@@ -631,6 +631,13 @@ impl<V: Device, G: Told> Floor<V, G> {
         ensures worker_later { self.old.stop ≢ None → worker.new ≡ worker.old }
         ensures worker_idle { self.old.attempt ≡ None → worker.new ≡ worker.old }
 
+        // Whatever the log: what a turn that did not fail leaves its worker and makes of the stash, that a turn that fails
+        // leaves the stash, and that a read stops exactly where its device failed or the bytes that it gave don't open.
+        ensures leaves { self.old.attempt ≢ None → self.old.stop ≡ None → self.new.stop ≡ None → Leaves (next self.old.plan.b (turns_made self.old) worker.old.number) self.old worker.old worker.new }
+        ensures deals { self.old.attempt ≢ None → self.old.stop ≡ None → self.new.stop ≡ None → Deals (C.target_list worker.old.coins) (next self.old.plan.b (turns_made self.old) worker.old.number) self.old self.new worker.old }
+        ensures stash { self.new.stop ≢ None → self.new.stash ≡ self.old.stash }
+        ensures opens { self.old.attempt ≢ None → self.old.stop ≡ None → StopsBy self.old.plan self.old.run (attempt_begun self.old) (next self.old.plan.b (turns_made self.old) worker.old.number) self.new.recorder.last (V.faults self.old.recorder.device) (V.faults self.new.recorder.device) self.new.stop }
+
         // The worker and the others hold the records of what they read, and the queues have those of their places.
         ensures holds { HoldsRecords self.new worker.new }
         ensures others_hold { (other : Working C) → HoldsRecords self.old other → HoldsRecords self.new other }
@@ -641,8 +648,8 @@ impl<V: Device, G: Told> Floor<V, G> {
         ensures slots { HoldsChunks G.draws self.old worker.old → SlotsHold G.draws self.old → SlotsHold G.draws self.new }
         ensures took { (record_of : ℕ → Item) → HoldsChunks G.draws self.old worker.old → EachTookItsBlock G.draws record_of self.old → EachTookItsBlock G.draws record_of self.new }
 
-        // No write failed but the last access, where the stop is that the device failed.
-        ensures writes { WritesFailed self.old.stop self.old.recorder.log → WritesFailed self.new.stop self.new.recorder.log }
+        // No access failed but the last one, where the stop is that the device failed.
+        ensures failed { FailedByStop self.old.stop self.old.recorder.log → FailedByStop self.new.stop self.new.recorder.log }
 
         // Each read gave bytes that open, but the last access, where the stop is that it failed or that they don't.
         ensures reads { ReadsGaveTheirBlocks G.draws self.old → ReadsGaveTheirBlocks G.draws self.new }

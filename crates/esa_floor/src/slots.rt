@@ -3,7 +3,7 @@
 //! The functions do nothing when they run. They are there so that each law is proved where a contract names it.
 
 ghost use Rattle.std.specs.Prelude.{◌≡◌, ℕ, ◌<◌, ◌≤◌, ◌++◌, ◌∷◌, All, List, [], Some, None, length, slice_index_or};
-ghost use Rattle.esa_device.specs.Logs.{Carried, latest_carried};
+ghost use Rattle.esa_device.specs.Logs.{Carried, NoneFailed, OnlyLastFailed, latest_carried};
 ghost use Rattle.esa_params.specs.Sizes.{Sizes};
 ghost use Rattle.esa_params.specs.Slots.{at};
 ghost use Rattle.esa_params.specs.declared.slot.Access.{Access};
@@ -16,7 +16,7 @@ ghost use Rattle.esa_spec.specs.Turns.{order};
 ghost use Rattle.esa_floor.specs.Keeping.{HasInput, chunk_block};
 ghost use Rattle.esa_floor.specs.Parts.{Parts, begun_as, ended_as};
 ghost use Rattle.esa_floor.specs.Standing.{attempt_begun, lists_before, turns_made};
-ghost use Rattle.esa_floor.specs.Written.{EachTookItsBlock, IsLatest, IsOfInput, NoWriteFailed, OnlyLastFailed, attempt_turns, output_seal, tail_seal};
+ghost use Rattle.esa_floor.specs.Written.{EachTookItsBlock, IsLatest, IsOfInput, attempt_turns, output_seal, tail_seal};
 ghost use Rattle.esa_floor.specs.declared.turn.Outcome.{Outcome};
 
 use esa_device::Device;
@@ -51,10 +51,10 @@ pub fn latest_writes_took_their_blocks<V: Device>()
         → bytes ≡ output_seal f.plan f.run access.attempt (ds access.attempt) record_of (attempt_turns f access.attempt) j }
 {}
 
-/// Where no write failed but the last access, the latest write of each slot took bytes, unless it is that access. Where none
+/// Where no access failed but the last one, the latest write of each slot took bytes, unless it is that access. Where none
 /// failed at all, each did.
 pub fn latest_writes_moved_their_bytes()
-    ensures each { (p : Sizes) (number : ℕ) (entry : Carried) (log : List Carried) → NoWriteFailed log → latest_carried p number log ≡ Some entry
+    ensures each { (p : Sizes) (number : ℕ) (entry : Carried) (log : List Carried) → NoneFailed log → latest_carried p number log ≡ Some entry
         → (bytes : List ℕ) × (entry.bytes ≡ Some bytes) }
     ensures failed { (p : Sizes) (number : ℕ) (access : Access) (log : List Carried) → OnlyLastFailed log
         → latest_carried p number log ≡ Some (record { access = access; bytes = None })

@@ -176,7 +176,6 @@ module _ {V : Type 0} (faults : V → ℕ) (p : Sizes) (ds : ℕ → Draw) (pre 
             room = room_left (outcome.Shuffled a) stands;
             history = alone none;
             turns = sym (take_all (a + 1) (lists_ended p g) (let is = count_now in omega (arith, is)));
-            behind = λ access ends there. inl refl;
             failed = failed_before ∙ ap (λ (n : ℕ). map (verdict_in p ds (lists_ended p g)) (below n)) (let is = count_now in omega (arith, is));
             batch = refl;
           }
@@ -219,7 +218,6 @@ module _ {V : Type 0} (faults : V → ℕ) (p : Sizes) (ds : ℕ → Draw) (pre 
       room = room_left (outcome_of why) stands;
       history = alone none;
       turns = stored why (lists_ended p g);
-      behind = λ access ends there. inl refl;
       failed = failures_cut why (length (lists_ended p g)) count_now;
       batch = counted why p.b (length g.recorder.trace) count;
     }
@@ -234,7 +232,6 @@ ends_all faults p ds pre a f failures before none some last count =
       room = let long = length-append f.history (f.plan.workers ∷ []) in let entries = stands.of.entries in omega (arith, long, entries);
       history = before.history ∙ ap (λ (xs : List ℕ). xs ++ history_of p (lists_ended p f)) none;
       turns = refl;
-      behind = λ access ends there. inl refl;
       failed = before.failed ∙ ap (λ (n : ℕ). map (verdict_in p ds (lists_ended p f)) (below n)) (sym before.count);
       batch = refl;
     }

@@ -3,7 +3,7 @@ use Rattle.std.proofs.Common.{◌≡◌, inl, ℕ, zero, suc, ◌+◌, ◌<◌, 
 use mathlib.Core.List.{IsPrefix}
 use Rattle.std.proofs.lemmas.List.{drop_all}
 use Rattle.std.proofs.lemmas.List.Elements.{All-nil}
-use Rattle.esa_device.specs.Logs.{Carried}
+use Rattle.esa_device.specs.Logs.{Carried, NoneFailed}
 use Rattle.esa_envelope.specs.declared.keys.Keys.{Keys}
 use Rattle.esa_laws.proofs.HistoryLaws.{begun-owner, lists-first}
 use Rattle.esa_params.specs.Sizes.{ArePlanned, Sizes, below}
@@ -17,7 +17,7 @@ use Rattle.esa_floor.specs.Marks.{mark_of, roots_of}
 use Rattle.esa_floor.specs.Parts.{Parts, ended_as}
 use Rattle.esa_floor.specs.Standing.{EndsAs, IsAt, IsNew, Stands, lists_before}
 use Rattle.esa_floor.specs.Trails.{IsKept, entry_text, trail_of}
-use Rattle.esa_floor.specs.Written.{GaveItsOwn, IsOfInput, NoWriteFailed, ReadsGave, WritesFailed}
+use Rattle.esa_floor.specs.Written.{FailedByStop, GaveItsOwn, IsOfInput, ReadsGave}
 use Rattle.esa_floor.specs.declared.floor.Roots.{Roots}
 use Rattle.esa_floor.specs.declared.turn.Outcome.{Outcome}
 use Rattle.esa_floor.specs.declared.turn.Outcome.TheVariants as outcome
@@ -74,7 +74,7 @@ module _ {V : Type 0} (faults : V → ℕ) (p : Sizes) (ds : ℕ → Draw) (f : 
     queues = λ record_of input some. absurd (some new.1);
     slots = λ record_of input some. absurd (some new.1);
     took = λ record_of items. took-input ds record_of f (subst (All (IsOfInput f.plan)) (sym (no_log logged)) (All-nil (IsOfInput f.plan)));
-    writes = subst (λ (s : Option Stop). WritesFailed s f.recorder.log) (sym new.2.runs) (subst NoWriteFailed (sym (no_log logged)) (All-nil Moved));
+    failed = subst (λ (s : Option Stop). FailedByStop s f.recorder.log) (sym new.2.runs) (subst NoneFailed (sym (no_log logged)) (All-nil Moved));
     reads = subst (λ (s : Option Stop). ReadsGave (GaveItsOwn ds f) s f.recorder.log) (sym new.2.runs) (subst (All (GaveItsOwn ds f)) (sym (no_log logged)) (All-nil (GaveItsOwn ds f)));
   }
 
@@ -152,7 +152,6 @@ module _ {V : Type 0} (faults : V → ℕ) (p : Sizes) (ds : ℕ → Draw) (f : 
         room = let few = entries in omega (arith, few);
         history = ap (history_of p) (sym empty);
         turns = stored o load;
-        behind = λ access ends there. inl refl;
         failed = no_failures ∙ ap (λ (n : ℕ). map (verdict_in p ds (lists_ended p alone)) (below n)) (sym (none_failed o load));
         batch = subst (λ (q : Sizes). IsCounted q.b (length f.recorder.trace) before now o) stands.of.plan counted;
       })

@@ -1,16 +1,17 @@
 //! One attempt of a run by a crew.
 
 ghost use Rattle.std.specs.Prelude.{◌≡◌, ◌+◌, ◌*◌, ◌<◌, ◌≤◌, ◌++◌, ◌∷◌, ℕ, [], None, Ok, OnOk, length, slice_index_or};
-ghost use Rattle.esa_device.specs.Logs.{IsFaithful};
+ghost use Rattle.esa_device.specs.Logs.{IsFaithful, NoneFailed};
 ghost use Rattle.esa_floor.specs.Keeping.{HasInput};
 ghost use Rattle.esa_floor.specs.Parts.{begun_as};
 ghost use Rattle.esa_floor.specs.Standing.{Stands, turns_made};
-ghost use Rattle.esa_floor.specs.Written.{AreItems, EachGaveItsBlock, EachTookItsBlock, EachUntil, GaveItsOwn, NoWriteFailed};
+ghost use Rattle.esa_floor.specs.Written.{AreItems, EachGaveItsBlock, EachTookItsBlock, EachUntil, GaveItsOwn};
 ghost use Rattle.esa_params.specs.Slots.{item_length};
 ghost use Rattle.esa_press.specs.Contents.{AreOrders, AreOutputsStored};
 ghost use Rattle.esa_report.specs.declared.item.Item.{Item};
 ghost use Rattle.esa_spec.specs.Fronts.{Begins};
-ghost use Rattle.esa_shuffle.specs.Attempts.{AttemptEnd, WritesEnd};
+ghost use Rattle.esa_shuffle.specs.Attempts.{AttemptEnd};
+ghost use Rattle.esa_vault.specs.Traffic.{FailedByFault};
 ghost use Rattle.esa_turnstile.specs.Entries.{times};
 ghost use Rattle.esa_turnstile.specs.Passes.{added_of, left_of, opened_of, passes_of, tickets_of};
 ghost use Rattle.esa_workers.specs.Distributions.{AreTurnsOfAll, HasFloor, Rests};
@@ -56,7 +57,7 @@ pub(crate) fn make_attempt<
     requires stands { Stands V.faults G.plan G.draws (begun_as held.value attempt) }
     requires some { 1 ≤ G.plan.workers }
     requires took { (record_of : ℕ → Item) → AreItems (item_length G.plan.form) record_of → EachTookItsBlock G.draws record_of held.value }
-    requires writes { NoWriteFailed held.value.recorder.log }
+    requires failed { NoneFailed held.value.recorder.log }
     requires reads { EachGaveItsBlock G.draws held.value }
     requires floor { HasFloor G.plan turnstile.now owner.old held.value }
     requires tickets { 2 ≤ left_of owner.old }
@@ -83,7 +84,7 @@ pub(crate) fn make_attempt<
         → HasInput held.value record_of → result.end ≡ Ok Verdict.Good
         → AreOutputsStored G.plan held.value.run (G.draws attempt) (turns_made result.held.value) attempt record_of G.plan.b result.held.value.recorder.log }
     ensures took { (record_of : ℕ → Item) → AreItems (item_length G.plan.form) record_of → EachTookItsBlock G.draws record_of result.held.value }
-    ensures writes { WritesEnd result.end result.held.value.recorder.log }
+    ensures failed { FailedByFault result.end result.held.value.recorder.log }
     ensures reads { EachUntil (GaveItsOwn G.draws result.held.value) result.end result.held.value.recorder.log }
     ensures posts { (k : ℕ) (d : _) → k < length posts.new → Rests V.faults G.draws C.target_list G.plan turnstile.now result.held.value k (slice_index_or posts.new k d) }
     ensures each { length posts.new ≡ length posts.old }

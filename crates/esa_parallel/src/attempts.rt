@@ -1,18 +1,18 @@
 //! The attempts of a run by a crew, one after another.
 
 ghost use Rattle.std.specs.Prelude.{◌≡◌, ◌+◌, ◌*◌, ◌<◌, ◌≤◌, ℕ, [], length, slice_index_or};
-ghost use Rattle.esa_device.specs.Logs.{IsFaithful};
+ghost use Rattle.esa_device.specs.Logs.{IsFaithful, NoneFailed};
 ghost use Rattle.esa_ending.specs.Seen.{turns_in};
 ghost use Rattle.esa_floor.specs.Keeping.{HasInput};
 ghost use Rattle.esa_floor.specs.Marks.{roots_of};
 ghost use Rattle.esa_floor.specs.Parts.{begun_as};
 ghost use Rattle.esa_floor.specs.Standing.{Stands};
-ghost use Rattle.esa_floor.specs.Written.{AreItems, EachGaveItsBlock, EachTookItsBlock, GaveItsOwn, NoWriteFailed};
+ghost use Rattle.esa_floor.specs.Written.{AreItems, EachGaveItsBlock, EachTookItsBlock, GaveItsOwn};
 ghost use Rattle.esa_params.specs.Sizes.{ArePlanned};
 ghost use Rattle.esa_params.specs.Slots.{item_length};
 ghost use Rattle.esa_press.specs.Contents.{AreOutputsStored};
 ghost use Rattle.esa_report.specs.declared.item.Item.{Item};
-ghost use Rattle.esa_shuffle.specs.Records.{ReadsOf, WritesOf};
+ghost use Rattle.esa_shuffle.specs.Records.{FailedByOutcome, ReadsOf};
 ghost use Rattle.esa_shuffle.specs.Runs.{MayEnd, lists_ended};
 ghost use Rattle.esa_spec.specs.Draws.{drawn};
 ghost use Rattle.esa_spec.specs.Fronts.{Begins};
@@ -60,7 +60,7 @@ pub(crate) fn make_attempts<
     requires next { Stands V.faults G.plan G.draws (begun_as held.value 0) }
     requires planned { ArePlanned G.plan }
     requires took { (record_of : ℕ → Item) → AreItems (item_length G.plan.form) record_of → EachTookItsBlock G.draws record_of held.value }
-    requires writes { NoWriteFailed held.value.recorder.log }
+    requires failed { NoneFailed held.value.recorder.log }
     requires reads { EachGaveItsBlock G.draws held.value }
     requires floor { HasFloor G.plan turnstile.now owner.old held.value }
     requires tickets { G.plan.attempts + 1 ≤ left_of owner.old }
@@ -90,9 +90,9 @@ pub(crate) fn make_attempts<
         → AreOutputsStored G.plan held.value.run (G.draws a) (turns_in (lists_ended G.plan result.held.value) a) a record_of G.plan.b result.held.value.recorder.log }
     ensures input { (record_of : ℕ → Item) → IsFaithful G.plan result.held.value.recorder.log → HasInput held.value record_of → HasInput result.held.value record_of }
 
-    // However the attempts ended, each write took its block, and none failed but the last.
+    // However the attempts ended, each write took its block, and no access failed but the last one.
     ensures took { (record_of : ℕ → Item) → AreItems (item_length G.plan.form) record_of → EachTookItsBlock G.draws record_of result.held.value }
-    ensures writes { WritesOf result.outcome result.held.value.recorder.log }
+    ensures failed { FailedByOutcome result.outcome result.held.value.recorder.log }
 
     // So each read gave its block, for every device.
     ensures reads { ReadsOf (GaveItsOwn G.draws result.held.value) result.outcome result.held.value.recorder.log }

@@ -32,10 +32,11 @@ use Rattle.esa_stash.specs.Dealing.{chunk_at}
 use Rattle.esa_stash.specs.Stash.{padded}
 use Rattle.esa_vault.specs.Placed.{IsSpelled}
 use Rattle.esa_vault.specs.Seals.{opens}
-use Rattle.esa_vault.specs.Traffic.{IsRead, OnGiven, ReadAnswer, given_by}
+use Rattle.esa_vault.specs.Traffic.{FailedByFault, IsRead, OnGiven, ReadAnswer, given_by}
 use Rattle.esa_vault.specs.declared.fault.VaultFault.{VaultFault}
 use Rattle.esa_vault.specs.declared.fault.VaultFault.TheVariants.{Device, Tampered}
 use Rattle.esa_press.specs.Records.{sealed_records}
+use Rattle.esa_press.proofs.Failing.{failed_read}
 use Rattle.esa_press.specs.Fetched.{FetchAnswer, GavePart, GivesAtLast, GivesRecords, GoesOnReading, IsFetched, IsStored, OnUnopened, part_slot}
 
 -- the parts of an import, and the reads of them
@@ -127,6 +128,7 @@ module _ {V T : Type 0} (told : V → Option (List (List ℕ))) (faults : V → 
     trace = sym (append-nil old.trace);
     log = reads_none old.log;
     gave = All-nil (GavePart p keys a i counts);
+    failed = λ none. none;
     room = omega arith;
     plan = refl;
     given = tt;
@@ -186,6 +188,7 @@ module _ {V T : Type 0} (told : V → Option (List (List ℕ))) (faults : V → 
             ∙ ap (λ (l : List Access). old.trace ++ l) (sym (one_read_more p a i x inside));
         log = reads_more old.log mid.log new.log (record { access = read_part p a i x; bytes = given_by result bytes }) so_far.log refl read.recorded.log;
         gave = gave_more x (faults mid.device) (faults new.device) so_far.log.more new.last bytes result inside so_far.gave read.given read.answer;
+        failed = λ none. subst (FailedByFault result) (sym read.recorded.log) (failed_read mid.log (access_of p a Reads (part_slot p i x)) bytes result (so_far.failed none));
         room = let one = so_far.room in let other = read.recorded.room in omega (arith, one, other, before);
         plan = read.recorded.plan ∙ so_far.plan;
         given = given_more x (x + 1 - 1) old.log mid.log new.log new.last bytes result (omega arith) so_far.log read.recorded.log read.given;
@@ -210,6 +213,7 @@ module _ {V T : Type 0} (told : V → Option (List (List ℕ))) (faults : V → 
     trace = fetched.trace;
     log = fetched.log;
     gave = fetched.gave;
+    failed = fetched.failed;
     room = fetched.room;
     plan = fetched.plan;
     given = fetched.given;
@@ -221,6 +225,7 @@ module _ {V T : Type 0} (told : V → Option (List (List ℕ))) (faults : V → 
     trace = fetched.trace;
     log = fetched.log;
     gave = fetched.gave;
+    failed = fetched.failed;
     room = fetched.room;
     plan = fetched.plan;
     given = fetched.given;

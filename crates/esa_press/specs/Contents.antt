@@ -1,11 +1,11 @@
 -- What the slots of an attempt hold, where each place has the item of its record.
 use Rattle.std.specs.Prelude.{◌≡◌, ℕ, ◌+◌, ◌<◌, ◌++◌, ◌&&◌, Bool, List, map, length, All, count_by, is_some, Result, Ok, Err}
-use Rattle.esa_device.specs.Logs.{Carried, IsFaithful, Took}
+use Rattle.esa_device.specs.Logs.{Carried, IsFaithful, NoneFailed, OnlyLastFailed, Took}
 use Rattle.esa_envelope.specs.declared.keys.Keys.{Keys}
 use Rattle.esa_floor.specs.Keeping.{AreChunksStored}
 use Rattle.esa_floor.specs.Parts.{Parts}
 use Rattle.esa_floor.specs.Standing.{turns_made}
-use Rattle.esa_floor.specs.Written.{AreItems, EachButLast, EachGaveItsBlock, GaveItsOwn, NoWriteFailed, OnlyLastFailed, TookItsBlock, attempt_turns, output_seal, tail_seal}
+use Rattle.esa_floor.specs.Written.{AreItems, EachButLast, EachGaveItsBlock, GaveItsOwn, TookItsBlock, attempt_turns, output_seal, tail_seal}
 use Rattle.esa_params.specs.Sizes.{ArePlanned, Sizes}
 use Rattle.esa_params.specs.Slots.{at, is_writing, item_length, number_of}
 use Rattle.esa_params.specs.declared.slot.Op.TheVariants.{Write as Writes}
@@ -107,12 +107,12 @@ PutsWaiting p keys d h a orders record_of j i k before old new queue rest result
     → queue ≡ waiting_items p d h record_of j i
     → EachOpens result (ArePut p keys d h a record_of (j + 1) before new × (rest ≡ waiting_items p d h record_of (j + 1) k)) (ArePut p keys d h a record_of j before new)
 
--- which writes failed, by how it ended: none, or the last access alone
-abbrev pub EndsWriting : {T : Type 0} → Result T Halt → List Carried → Type 0
-EndsWriting (Ok done) log = NoWriteFailed log
-EndsWriting (Err (Verdict v)) log = NoWriteFailed log
-EndsWriting (Err (Fault (Device number))) log = OnlyLastFailed log
-EndsWriting (Err (Fault (Tampered number))) log = NoWriteFailed log
+-- which accesses failed, by how it ended: none, or the last one alone, where the device failed
+abbrev pub FailedByHalt : {T : Type 0} → Result T Halt → List Carried → Type 0
+FailedByHalt (Ok done) log = NoneFailed log
+FailedByHalt (Err (Verdict v)) log = NoneFailed log
+FailedByHalt (Err (Fault (Device number))) log = OnlyLastFailed log
+FailedByHalt (Err (Fault (Tampered number))) log = NoneFailed log
 
 -- which reads gave their blocks, by how it ended: all, but the last access where it failed or gave what doesn't open
 abbrev pub EndsReading : {T : Type 0} → (Carried → Type 0) → Result T Halt → List Carried → Type 0

@@ -1,7 +1,7 @@
 -- Blocks that are read and opened to items, one by one and for a whole import.
 use Rattle.std.specs.Prelude.{◌≡◌, ℕ, ◌+◌, ◌-◌, ◌<◌, ◌≤◌, nat_lt, if◌then◌else◌, true, false, Some, List, [], ◌∷◌, ◌++◌, All, length, take, slice_index, Result, Ok, Err, OnOk}
 use Rattle.esa_compress.specs.Held.{held_count}
-use Rattle.esa_device.specs.Logs.{Carried, IsFaithful, Took}
+use Rattle.esa_device.specs.Logs.{Carried, IsFaithful, NoneFailed, Took}
 use Rattle.esa_device.specs.Recording.{Recorded}
 use Rattle.esa_envelope.specs.declared.keys.Keys.{Keys}
 use Rattle.esa_floor.specs.Written.{EachUntil}
@@ -17,6 +17,7 @@ use Rattle.esa_spec.specs.Traces.{chunk_slot, import_reads}
 use Rattle.esa_stash.specs.Stash.{padded}
 use Rattle.esa_vault.specs.Placed.{IsSpelled}
 use Rattle.esa_vault.specs.Seals.{opens}
+use Rattle.esa_vault.specs.Traffic.{FailedByFault}
 use Rattle.esa_vault.specs.declared.fault.VaultFault.{VaultFault}
 use Rattle.esa_vault.specs.declared.fault.VaultFault.TheVariants.{Device, Tampered}
 use Rattle.esa_press.specs.Records.{AreRecords, sealed_records}
@@ -90,6 +91,7 @@ pub record IsFetched {V T : Type 0} (faults : V → ℕ) (p : Sizes) (keys : Key
   pub trace : new.trace ≡ old.trace ++ take made (import_reads p attempt i)
   pub log : GoesOnReading old.log new.log
   pub gave : EachUntil (GavePart p keys attempt i counts) result log.more
+  pub failed : NoneFailed old.log → FailedByFault result new.log
   pub room : old.room ≡ new.room + made
   pub plan : new.plan ≡ old.plan
   pub given : OnUnopened result (GivesAtLast (access_of p attempt Reads (part_slot p i (made - 1))) new.last old.log new.log)

@@ -3,15 +3,15 @@
 ghost use Rattle.std.specs.Prelude.{◌≡◌, ℕ, suc, ◌+◌, ◌-◌, ◌*◌, ◌<◌, ◌≤◌, ◌++◌, List, [], ◌∷◌, Some, OnOk, length, map};
 ghost use Rattle.std.specs.List.{range_with_len};
 ghost use Rattle.esa_compress.specs.Held.{held_in};
-ghost use Rattle.esa_device.specs.Logs.{Carried, IsFaithful};
+ghost use Rattle.esa_device.specs.Logs.{Carried, IsFaithful, NoneFailed};
 ghost use Rattle.esa_floor.specs.Keeping.{HasInput};
 ghost use Rattle.esa_floor.specs.Standing.{turns_made};
-ghost use Rattle.esa_floor.specs.Written.{EachTookItsBlock, NoWriteFailed, attempt_turns};
+ghost use Rattle.esa_floor.specs.Written.{EachTookItsBlock, attempt_turns};
 ghost use Rattle.esa_params.specs.Sizes.{first};
 ghost use Rattle.esa_spec.specs.Turns.{order};
 ghost use Rattle.esa_spec.specs.Verdicts.{Import, imported, reached, steps, steps_of};
 ghost use Rattle.esa_report.specs.declared.item.Item.{Item};
-ghost use Rattle.esa_press.specs.Contents.{AreOrders, ArePut, EachOpens, EndsWriting, GoesOnGiving, GoesOnPressing, HoldsDistribution, KeepsWaiting, PutsWaiting};
+ghost use Rattle.esa_press.specs.Contents.{AreOrders, ArePut, EachOpens, FailedByHalt, GoesOnGiving, GoesOnPressing, HoldsDistribution, KeepsWaiting, PutsWaiting};
 ghost use Rattle.esa_press.specs.Fetched.{AreStored, GoesOnReading};
 ghost use Rattle.esa_press.specs.Records.{imported_items};
 ghost use Rattle.esa_press.specs.Stepped.{AreCounted, AreMade, IsAtImport};
@@ -38,6 +38,7 @@ impl Press {
         ensures made { AreMade V.faults floor.old.plan floor.old.run (G.draws attempt) (order floor.old.plan.b (turns_made floor.old)) attempt (Import output target ∷ []) floor.old.recorder floor.new.recorder result }
         ensures waits { OnOk result (length self.new.queue ≡ reached floor.old.plan (G.draws attempt) (target + 1) - first floor.old.plan output) }
         ensures log { GoesOnReading floor.old.recorder.log floor.new.recorder.log }
+        ensures failed { NoneFailed floor.old.recorder.log → FailedByHalt result floor.new.recorder.log }
         ensures reads { GoesOnGiving G.draws attempt floor.old floor.new result }
         ensures gives { (chunks : ℕ → List Item) (left : List Item) → IsFaithful floor.old.plan floor.new.recorder.log
             → AreStored floor.old.plan floor.old.run attempt target floor.old.recorder.log chunks left
@@ -71,6 +72,7 @@ impl Press {
         ensures made { AreMade V.faults floor.old.plan floor.old.run (G.draws attempt) (order floor.old.plan.b (turns_made floor.old)) attempt (map (Import output) (range_with_len from (end - from))) floor.old.recorder floor.new.recorder result }
         ensures waits { OnOk result (length self.new.queue ≡ reached floor.old.plan (G.draws attempt) end - first floor.old.plan output) }
         ensures log { GoesOnReading floor.old.recorder.log floor.new.recorder.log }
+        ensures failed { NoneFailed floor.old.recorder.log → FailedByHalt result floor.new.recorder.log }
         ensures reads { GoesOnGiving G.draws attempt floor.old floor.new result }
         ensures keeps { (record_of : ℕ → Item) → KeepsWaiting floor.old.plan floor.old.run (G.draws attempt) (turns_made floor.old) attempt (C.order_list coins.now attempt) record_of
             output from end floor.old.recorder.log floor.new.recorder.log self.old.queue self.new.queue result }
@@ -109,7 +111,7 @@ impl Press {
         ensures put { OnOk result (first floor.old.plan (output + 1) ≤ reached floor.old.plan (G.draws attempt) end) }
         ensures waits { OnOk result (length self.new.queue ≡ reached floor.old.plan (G.draws attempt) end - first floor.old.plan (output + 1)) }
         ensures log { GoesOnPressing floor.old.recorder.log floor.new.recorder.log }
-        ensures writes { NoWriteFailed floor.old.recorder.log → EndsWriting result floor.new.recorder.log }
+        ensures failed { NoneFailed floor.old.recorder.log → FailedByHalt result floor.new.recorder.log }
         ensures reads { GoesOnGiving G.draws attempt floor.old floor.new result }
         ensures puts { (record_of : ℕ → Item) (before : List Carried) → PutsWaiting floor.old.plan floor.old.run (G.draws attempt) (turns_made floor.old) attempt (C.order_list coins.now attempt) record_of
             output from end before floor.old.recorder.log floor.new.recorder.log self.old.queue self.new.queue result }
@@ -164,7 +166,7 @@ impl Press {
             → AreOrders floor.old.plan (G.draws attempt) (C.order_list coins.now attempt)
             → HoldsDistribution floor.old.plan floor.old.run (G.draws attempt) (turns_made floor.old) attempt record_of floor.old.recorder.log
             → EachTookItsBlock G.draws record_of floor.old → EachTookItsBlock G.draws record_of floor.new }
-        ensures writes { NoWriteFailed floor.old.recorder.log → EndsWriting result floor.new.recorder.log }
+        ensures failed { NoneFailed floor.old.recorder.log → FailedByHalt result floor.new.recorder.log }
         ensures reads { GoesOnGiving G.draws attempt floor.old floor.new result }
     {
         let plan = self.plan();

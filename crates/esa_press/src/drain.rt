@@ -1,15 +1,15 @@
 //! The drain: what is left in the stash is written as tails.
 
 ghost use Rattle.std.specs.Prelude.{◌≡◌, ℕ, ◌*◌, ◌<◌, ◌≤◌, Some, OnOk, length, slice_index};
-ghost use Rattle.esa_device.specs.Logs.{IsFaithful};
+ghost use Rattle.esa_device.specs.Logs.{IsFaithful, NoneFailed};
 ghost use Rattle.esa_floor.specs.Keeping.{AreChunksStored, HasInput};
 ghost use Rattle.esa_floor.specs.Standing.{IsSpread, turns_made};
-ghost use Rattle.esa_floor.specs.Written.{EachTookItsBlock, NoWriteFailed, attempt_turns};
+ghost use Rattle.esa_floor.specs.Written.{EachTookItsBlock, attempt_turns};
 ghost use Rattle.esa_spec.specs.Draws.{IsDrawn};
 ghost use Rattle.esa_spec.specs.Turns.{order};
 ghost use Rattle.esa_stash.specs.Stash.{queue_at};
 ghost use Rattle.esa_report.specs.declared.item.Item.{Item};
-ghost use Rattle.esa_press.specs.Contents.{AreQueued, AreTailsStored, EndsWriting, GoesOnGiving};
+ghost use Rattle.esa_press.specs.Contents.{AreQueued, AreTailsStored, FailedByHalt, GoesOnGiving};
 ghost use Rattle.esa_press.specs.Drained.{DrainEnd};
 ghost use Rattle.esa_press.specs.Stepped.{AreCounted};
 
@@ -49,7 +49,7 @@ impl Press {
         ensures took { (record_of : ℕ → Item) → attempt_turns floor.old attempt ≡ turns_made floor.old
             → AreQueued floor.old.plan (G.draws attempt) (turns_made floor.old) record_of floor.old.stash
             → EachTookItsBlock G.draws record_of floor.old → EachTookItsBlock G.draws record_of floor.new }
-        ensures writes { NoWriteFailed floor.old.recorder.log → EndsWriting result floor.new.recorder.log }
+        ensures failed { NoneFailed floor.old.recorder.log → FailedByHalt result floor.new.recorder.log }
         ensures reads { GoesOnGiving G.draws attempt floor.old floor.new result }
     {
         for target in 0..self.plan().b() {

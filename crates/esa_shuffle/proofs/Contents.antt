@@ -1,24 +1,18 @@
 -- What the output of an attempt has, and how its log goes on.
-use Rattle.std.proofs.Common.{◌≡◌, ◌≢◌, ℕ, ◌<◌, List, [], ◌∷◌, ◌++◌, All, length, map, drop, Result, Ok, Err, refl, sym, ap, ◌∙◌, subst, arith, inl, inr, drop_at}
-use Rattle.std.specs.Prelude.{◌⊎◌, filter_map}
+use Rattle.std.proofs.Common.{◌≡◌, ℕ, List, [], ◌∷◌, ◌++◌, All, length, map, drop, Result, Ok, Err, refl, sym, ap, ◌∙◌, subst, drop_at}
 use Rattle.std.proofs.lemmas.List.{map-append}
-use Rattle.std.proofs.lemmas.List.Elements.{All-cons, All-head, All-nil, All-tail}
 use Rattle.esa_device.specs.Logs.{Carried, IsFaithful, Took}
 use Rattle.esa_device.specs.Recording.{Recorded}
 use Rattle.esa_device.proofs.LogLaws.{faithful-front}
 use Rattle.esa_params.specs.Sizes.{Sizes, below}
-use Rattle.esa_params.specs.Slots.{access_of, at, number_of, slot_number}
-use Rattle.esa_params.specs.declared.slot.Access.{Access}
-use Rattle.esa_params.specs.declared.slot.Op.TheVariants.{Read as Reads, Write as Writes}
+use Rattle.esa_params.specs.Slots.{at, number_of}
 use Rattle.esa_params.specs.declared.slot.Region.TheVariants.{Input}
 use Rattle.esa_report.specs.declared.item.Item.{Item}
 use Rattle.esa_spec.specs.Draws.{Draw}
 use Rattle.esa_spec.specs.Fronts.{Begins}
-use Rattle.esa_spec.specs.Traces.{asked, chunk_slot, made, spread}
+use Rattle.esa_spec.specs.Traces.{made, spread}
 use Rattle.esa_spec.specs.Turns.{events, order}
 use Rattle.esa_spec.specs.Verdicts.{failing, is_good, steps}
-use Rattle.esa_spec.specs.declared.event.Event.{Event}
-use Rattle.esa_spec.specs.declared.event.Event.TheVariants.{Claim, Read, Exchange, Write, Done, Idle}
 use Rattle.esa_spec.specs.declared.event.Verdict.TheVariants as verdicts
 use Rattle.esa_vault.specs.Seals.{sealed_block}
 use Rattle.esa_vault.specs.declared.fault.VaultFault.TheVariants as fault
@@ -32,7 +26,7 @@ use Rattle.esa_press.specs.Drained.{DrainEnd, failed_tail, stored_tail}
 use Rattle.esa_press.specs.Stepped.{AreMade}
 use Rattle.esa_press.specs.declared.halt.Halt.{Halt}
 use Rattle.esa_press.specs.declared.halt.Halt.TheVariants as halt
-use Rattle.esa_press.proofs.Fetching.{Spares, took_over}
+use Rattle.esa_floor.proofs.Trailing.{SparesSlot, accesses_in, asked_spares, spared, took_on}
 use Rattle.esa_shuffle.specs.Attempts.{end_of}
 
 -- the log of a drain goes on
@@ -74,31 +68,6 @@ outputs_on {V} f x d a orders record_of log same compressed =
     subst (λ (y : Parts V). AreOrders y.plan d orders → HoldsDistribution y.plan y.run d (turns_made y) a record_of x.recorder.log → IsFaithful y.plan log
     → AreOutputsStored y.plan y.run d (turns_made y) a record_of y.plan.b log) same compressed
 
--- an access doesn't write the slot of this number
-abbrev SparesSlot : Sizes → ℕ → Access → Type 0
-SparesSlot p number access = (access.op ≡ Reads) ⊎ (number ≢ slot_number p access)
-
--- the turns write no block of the input
-asked_spares : (p : Sizes) (a j : ℕ) → j < p.b → (es : List Event) → All (SparesSlot p (number_of p (at Input j))) (filter_map (asked p a) es)
-asked_spares p a j j_in [] = All-nil (SparesSlot p (number_of p (at Input j)))
-asked_spares p a j j_in (Claim k ∷ es) = asked_spares p a j j_in es
-asked_spares p a j j_in (Read k ∷ es) =
-    All-cons (SparesSlot p (number_of p (at Input j))) (access_of p a Reads (at Input k)) (filter_map (asked p a) es) (inl refl) (asked_spares p a j j_in es)
-asked_spares p a j j_in (Exchange k ∷ es) = asked_spares p a j j_in es
-asked_spares p a j j_in (Write k i ∷ es) =
-    All-cons (SparesSlot p (number_of p (at Input j))) (access_of p a Writes (chunk_slot p k i)) (filter_map (asked p a) es) (inr (λ same. absurd (omega (arith, same, j_in)))) (asked_spares p a j j_in es)
-asked_spares p a j j_in (Done ∷ es) = asked_spares p a j j_in es
-asked_spares p a j j_in (Idle ∷ es) = asked_spares p a j j_in es
-
-abbrev accesses_in : List Carried → List Access
-accesses_in log = map (λ (entry : Carried). entry.access) log
-
-spared : (p : Sizes) (number : ℕ) (more : List Carried) → All (SparesSlot p number) (accesses_in more) → All (Spares p number) more
-spared p number [] all = All-nil (Spares p number)
-spared p number (entry ∷ more) all =
-    All-cons (Spares p number) entry more (All-head (SparesSlot p number) entry.access (accesses_in more) all)
-    (spared p number more (All-tail (SparesSlot p number) entry.access (accesses_in more) all))
-
 -- so the input stays while turns are taken
 pub input_stays : {V : Type 0} (f g : Parts V) (d : Draw) (a : ℕ) (h : List ℕ) (record_of : ℕ → Item) → roots_of g ≡ roots_of f
     → accesses_in f.recorder.log ≡ f.recorder.trace → accesses_in g.recorder.log ≡ g.recorder.trace → g.recorder.trace ≡ f.recorder.trace ++ spread f.plan d a h
@@ -116,7 +85,7 @@ input_stays f g d a h record_of origin before after longer on faithful input =
           let one = input.sealed j j_in in (
             one.0,
             subst (Took f.plan (number_of f.plan (at Input j)) (sealed_block f.plan f.run (at Input j) 0 one.0)) (sym on.1)
-                (took_over f.plan (number_of f.plan (at Input j)) (sealed_block f.plan f.run (at Input j) 0 one.0) f.recorder.log more
+                (took_on f.plan (number_of f.plan (at Input j)) (sealed_block f.plan f.run (at Input j) 0 one.0) f.recorder.log more
                 (spared f.plan (number_of f.plan (at Input j)) more
                 (subst (All (SparesSlot f.plan (number_of f.plan (at Input j)))) (sym rest)
                 (asked_spares f.plan a j j_in (made (failing f.plan d (order f.plan.b h)) (events f.plan.b h))))) one.1),

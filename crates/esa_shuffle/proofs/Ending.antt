@@ -42,7 +42,7 @@ module _ {V : Type 0} (faults : V → ℕ) (ds : ℕ → Draw) (hs : List (List 
       let end = may.stands.state.2 in
       record {
         access = end.1.0;
-        cut = cut-in-shuffle f.plan ds hs (seen f.plan.workers) end.1.0 may.history may.turns (may.behind end.1.0 end.1.1) end.1.1 end.0;
+        cut = cut-in-shuffle f.plan ds hs (seen f.plan.workers) end.1.0 may.history may.turns end.1.1 end.0;
         slot = end.1.2;
         cause = end.2;
         batch = may.batch;
@@ -51,7 +51,7 @@ module _ {V : Type 0} (faults : V → ℕ) (ds : ℕ → Draw) (hs : List (List 
       let end = may.stands.state.2 in
       record {
         access = end.1.0;
-        cut = cut-in-shuffle f.plan ds hs (seen f.plan.workers) end.1.0 may.history may.turns (may.behind end.1.0 end.1.1) end.1.1 end.0;
+        cut = cut-in-shuffle f.plan ds hs (seen f.plan.workers) end.1.0 may.history may.turns end.1.1 end.0;
         slot = end.1.3;
         reads = end.1.2;
         closed = end.1.4;

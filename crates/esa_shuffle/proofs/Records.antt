@@ -33,7 +33,7 @@ use Rattle.esa_floor.specs.declared.turn.Outcome.TheVariants as outcome
 use Rattle.esa_floor.proofs.Giving.{gave-input, gave-write, input_written}
 use Rattle.esa_floor.proofs.Writing.{took-input}
 use Rattle.esa_shuffle.specs.Loading.{IsOfLoad, TakesBatch, TakesInput}
-use Rattle.esa_shuffle.specs.Records.{IsShuffledFrom, IsWrittenFrom, ReadsOf, WritesOf, record_at}
+use Rattle.esa_shuffle.specs.Records.{FailedByOutcome, IsShuffledFrom, IsWrittenFrom, ReadsOf, record_at}
 use Rattle.esa_shuffle.proofs.Contents.{faithful_before}
 use Rattle.esa_shuffle.proofs.Giving.{all_gave, any_read}
 use Rattle.esa_shuffle.proofs.Inputs.{written_by, written_on}
@@ -41,7 +41,7 @@ use Rattle.esa_shuffle.proofs.Taken.{all_took, took_none}
 
 -- a load that ended the run put no records out, and what it wrote is the input
 pub not_shuffled : (p : Sizes) (ds : ℕ → Draw) (hs : List (List ℕ)) (outer run : Keys) (history : List ℕ) (log : List Carried) (o : Outcome) (given : List ℕ) → IsOfLoad o
-    → All (WritesInput p) log → WritesOf o log → IsWrittenFrom p run given log → IsShuffledFrom p ds hs outer run history log o given
+    → All (WritesInput p) log → FailedByOutcome o log → IsWrittenFrom p run given log → IsShuffledFrom p ds hs outer run history log o given
 not_shuffled p ds hs outer run history log o given of_load all failed written = record {
   output = λ a same faithful. absurd (subst IsOfLoad same of_load);
   took = λ faithful. took_none p run ds (record_at p outer given) (turns_in (lists p.workers history)) log (input_written p log all);
@@ -111,7 +111,7 @@ module _ {V : Type 0} (p : Sizes) (ds : ℕ → Draw) (hs : List (List ℕ)) (ou
         → AreOutputsStored p x.run (ds a) (turns_in hs a) a record_of p.b f.recorder.log)
         → ((record_of : ℕ → Item) → IsFaithful p f.recorder.log → HasInput x record_of → HasInput f record_of)
         → ((record_of : ℕ → Item) → AreItems (item_length p.form) record_of → EachTookItsBlock ds record_of x → EachTookItsBlock ds record_of f)
-        → All (WritesInput x.plan) x.recorder.log → WritesOf o f.recorder.log
+        → All (WritesInput x.plan) x.recorder.log → FailedByOutcome o f.recorder.log
         → (EachGaveItsBlock ds x → ReadsOf (GaveItsOwn ds f) o f.recorder.log) → IsWrittenFrom p run given f.recorder.log
         → IsShuffledFrom p ds hs outer run (f.history ++ p.workers ∷ []) f.recorder.log o given
     shuffled_from outputs stays takes all failed gives written = record {

@@ -1,6 +1,6 @@
 -- The attempts of a run, one after another: what a floor is before each of them, and how one ends the run or leads on.
 use Rattle.std.proofs.Common.{◌≡◌, inl, inr, ℕ, zero, suc, ◌+◌, ◌-◌, ◌<◌, ◌≤◌, Bool, true, false, cond, List, [], ◌∷◌, ◌++◌, length, map, take, None, Ok, Err, refl, sym, ap, ap₂, ◌∙◌, subst, arith, add-one, length-append, length-take}
-use Rattle.std.specs.Prelude.{All, ◌⊎◌}
+use Rattle.std.specs.Prelude.{All}
 use Rattle.std.proofs.lemmas.List.Elements.{All-take}
 use Rattle.std.proofs.lemmas.List.FromFn.{get_or-map-range_with_len}
 use Rattle.esa_laws.proofs.HistoryLaws.{lists-first}
@@ -14,8 +14,8 @@ use Rattle.esa_spec.specs.Histories.{lists}
 use Rattle.esa_spec.specs.Traces.{is_failed}
 use Rattle.esa_spec.specs.Verdicts.{is_good, verdict}
 use Rattle.esa_spec.specs.declared.event.Verdict.{Verdict}
-use Rattle.esa_ending.specs.Seen.{AreCut, EndsWithTurn, NoTurnBehind, history_of, last_begun, turns_in, verdict_in}
-use Rattle.esa_ending.proofs.CutLaws.{none-behind}
+use Rattle.esa_ending.specs.Seen.{AreCut, EndsWithTurn, HistoryEnds, history_of, turns_in, verdict_in}
+use Rattle.esa_ending.proofs.HistoryLaws.{ends-behind, ends-with-turn}
 use Rattle.esa_floor.specs.Parts.{Parts, begun_as, ended_as}
 use Rattle.esa_floor.specs.Standing.{Stands, turns_made}
 use Rattle.esa_floor.specs.declared.turn.Outcome.{Outcome}
@@ -25,7 +25,7 @@ use Rattle.esa_vault.specs.declared.fault.VaultFault.TheVariants as fault
 use Rattle.esa_model.specs.Forecast.{handed_in, made, made_in}
 use Rattle.esa_crew.proofs.Finishing.{begins_again, ends_failed, ends_shuffled}
 use Rattle.esa_shuffle.specs.Attempts.{AddsAttempt, AttemptEnd, StopsShort, outcome_of}
-use Rattle.esa_shuffle.specs.Runs.{AreStored, IsCounted, MayEnd, entries_before, entries_in, failed_of, lists_ended}
+use Rattle.esa_shuffle.specs.Runs.{AreStored, EndWithCut, IsCounted, MayEnd, entries_before, entries_in, failed_of, lists_ended}
 use Rattle.esa_shuffle.proofs.Storing.{cut-in, first-more, history-more, length-first, length_is, lists_are, take-first, turns_are}
 
 -- a floor before attempt a, or after the last one: the attempts before it have failed
@@ -148,7 +148,6 @@ module _ {V : Type 0} (faults : V → ℕ) (p : Sizes) (ds : ℕ → Draw) (turn
             room = room_left (outcome.Shuffled a) stands;
             history = history_now ∙ ap (history_of p) (sym lists_now);
             turns = stored_good;
-            behind = λ access ends. subst (λ (xs : List (List ℕ)). NoTurnBehind p xs hs access) (sym stored_good) (none-behind p hs (a + 1) access);
             failed = before.failed ∙ ap (λ (n : ℕ). map (verdict_in p ds hs) (below n))
                 (let long = ap length lists_now ∙ length-first (made_in p ds turns) (a + 1) in omega (arith, long));
             batch = refl;
@@ -191,29 +190,38 @@ module _ {V : Type 0} (faults : V → ℕ) (p : Sizes) (ds : ℕ → Draw) (turn
     failures_cut (fault.Device number) n is = before.failed ∙ ap (λ (n : ℕ). map (verdict_in p ds hs) (below n)) (omega (arith, is))
     failures_cut (fault.Tampered number) n is = before.failed ∙ ap (λ (n : ℕ). map (verdict_in p ds hs) (below n)) (omega (arith, is))
 
-    -- no turn came behind the last access
-    none_behind_cut : (why : VaultFault) (count : ℕ) → g.history ≡ (f.history ++ p.workers ∷ []) ++ take count here → StopsShort p a here g (Err why)
-        → (access : Access) → EndsWith g.recorder.trace access → NoTurnBehind p (lists_ended p g) hs access
-    none_behind_cut why count is short access ends some =
-        let firsts = map (made_in p ds turns) (below a) in
-        let lists = listed count is in
-        let first = length-first (made_in p ds turns) a in
-        let long = ap length lists ∙ length-append firsts (take count here ∷ []) in
-        let at : last_begun (lists_ended p g) ≡ a = omega (arith, long, first) in
-        let made_now : turns_made g ≡ take count here =
-        ap (λ (q : Sizes). turns_made (record g { plan = q })) same ∙ turns_are p.workers f.history (take count here) g.history (all_in count) is in
-        let here_now : turns_in (lists_ended p g) a ≡ turns_made g =
-        ap (λ (xs : List (List ℕ)). turns_in xs a) lists ∙ ap (turns_in (firsts ++ take count here ∷ [])) (sym first) ∙ nth-behind firsts (take count here) ∙ sym made_now in
-        subst (λ (n : ℕ). (turns_in (lists_ended p g) n ≡ turns_in hs n) ⊎ EndsWithTurn p n (turns_in (lists_ended p g) n) access) (sym at)
-        (subst (λ (h : List ℕ). (h ≡ turns_in hs a) ⊎ EndsWithTurn p a h access) (sym here_now)
-        (elim (short access ends) [
-          | inl all ↦ inl (all ∙ sym turn_lists)
-          | inr one ↦ inr one
-        ]))
+    -- the turns that were stored end with it
+    module _ (why : VaultFault) (added : AddsAttempt p here f.history g.history (Err why)) (short : StopsShort p a here g (Err why)) where
+      abbrev firsts : List (List ℕ)
+      firsts = map (made_in p ds turns) (below a)
 
-    pub ends_cut : (why : VaultFault) → AddsAttempt p here f.history g.history (Err why) → StopsShort p a here g (Err why) → AttemptEnd faults p ds a g (Err why)
+      ends_with : (access : Access) → EndsWith g.recorder.trace access → HistoryEnds p (lists_ended p g) hs access
+      ends_with access ends =
+          let now = take added.count here in
+          let lists = listed added.count added.history in
+          let first = length-first (made_in p ds turns) a in
+          let long = ap length lists ∙ length-append firsts (now ∷ []) in
+          let made_now : turns_made g ≡ now =
+          ap (λ (q : Sizes). turns_made (record g { plan = q })) same ∙ turns_are p.workers f.history now g.history (all_in added.count) added.history in
+          let here_now : turns_in (lists_ended p g) a ≡ turns_made g =
+          ap (λ (xs : List (List ℕ)). turns_in xs a) lists ∙ ap (turns_in (firsts ++ now ∷ [])) (sym first) ∙ nth-behind firsts now ∙ sym made_now in
+          elim (short access ends) [
+            | inl one ↦ ends-with-turn p (lists_ended p g) hs a (omega (arith, long, first)) access (subst (λ (h : List ℕ). EndsWithTurn p a h access) (sym here_now) one)
+            | inr all ↦ ends-behind p (lists_ended p g) hs access a all.1
+                (lists ∙ ap (λ (h : List ℕ). firsts ++ h ∷ []) (sym made_now ∙ all.0) ∙ first-more (made_in p ds turns) a
+                ∙ sym (take-first (made_in p ds turns) (a + 1) p.attempts (omega (arith, inside))))
+          ]
+
+      by_cause : (cause : VaultFault) → EndWithCut p (lists_ended p g) hs g.recorder.trace (outcome_of cause)
+      by_cause (fault.Device number) = ends_with
+      by_cause (fault.Tampered number) = ends_with
+
+      pub cut_ends : EndWithCut p (lists_ended p g) hs g.recorder.trace (outcome_of why)
+      cut_ends = by_cause why
+
+    pub ends_cut : (why : VaultFault) → AddsAttempt p here f.history g.history (Err why) → AttemptEnd faults p ds a g (Err why)
         → (count : ℕ) → MayEnd faults p ds hs count count g failures (outcome_of why)
-    ends_cut why added short stands count =
+    ends_cut why added stands count =
         let lists = listed added.count added.history in
         record {
           stands = stands;
@@ -221,7 +229,6 @@ module _ {V : Type 0} (faults : V → ℕ) (p : Sizes) (ds : ℕ → Draw) (turn
           history = historied added.count added.history ∙ ap (history_of p) (sym lists);
           turns = stored why (lists_ended p g)
               (subst (λ (xs : List (List ℕ)). AreCut xs hs) (sym lists) (cut-in (made_in p ds turns) a p.attempts added.count inside));
-          behind = none_behind_cut why added.count added.history short;
           failed = failures_cut why (length (lists_ended p g))
               (let long = ap length lists ∙ length-append (map (made_in p ds turns) (below a)) (take added.count here ∷ []) in
               let first = length-first (made_in p ds turns) a in omega (arith, long, first));
@@ -238,8 +245,6 @@ ends_all faults p ds turns a f failures before some last count =
       room = let long = length-append f.history (f.plan.workers ∷ []) in let entries = stands.of.entries in omega (arith, long, entries);
       history = before.history ∙ ap (history_of p) (sym before.lists_are);
       turns = before.lists_are ∙ ap (λ (n : ℕ). map (made_in p ds turns) (below n)) last;
-      behind = λ access ends some_made.
-          inl (ap (λ (xs : List (List ℕ)). turns_in xs (last_begun (lists_ended p f))) (before.lists_are ∙ ap (λ (n : ℕ). map (made_in p ds turns) (below n)) last));
       failed = before.failed ∙ ap (λ (n : ℕ). map (verdict_in p ds (made p ds turns)) (below n))
           (sym (ap length before.lists_are ∙ length-first (made_in p ds turns) a));
       batch = refl;

@@ -5,7 +5,7 @@ use Rattle.std.proofs.lemmas.Bool.{cases_lt}
 use Rattle.std.proofs.lemmas.List.{get_or_past}
 use Rattle.std.proofs.lemmas.List.Elements.{All-map, All-push, All-weaker}
 use Rattle.std.proofs.lemmas.List.Splits.{length-slice_split}
-use Rattle.esa_device.specs.Logs.{Carried}
+use Rattle.esa_device.specs.Logs.{Carried, NoneFailed, OnlyLastFailed}
 use Rattle.esa_envelope.specs.declared.keys.Keys.{Keys}
 use Rattle.esa_laws.proofs.FinishLaws.{All-below}
 use Rattle.esa_laws.proofs.HistoryLaws.{begun-owner, latest-owner, length-lists}
@@ -18,16 +18,18 @@ use Rattle.esa_spec.specs.Draws.{Draw}
 use Rattle.esa_spec.specs.Histories.{lists, parts}
 use Rattle.esa_spec.specs.Turns.{order}
 use Rattle.esa_spec.specs.Traces.{written_tail}
+use Rattle.esa_spec.specs.declared.event.Verdict.{Verdict}
+use Rattle.esa_vault.specs.Traffic.{FailedByFault}
 use Rattle.esa_vault.specs.declared.fault.VaultFault.{VaultFault}
 use Rattle.esa_vault.specs.declared.fault.VaultFault.TheVariants as fault
 use Rattle.esa_ending.specs.Seen.{turns_in}
 use Rattle.esa_floor.specs.Keeping.{AreChunksStored, HasInput, IsInput, QueuesHold, SlotsHold}
 use Rattle.esa_floor.specs.Parts.{Parts, ended_as}
 use Rattle.esa_floor.specs.Standing.{attempt_begun, turns_made}
-use Rattle.esa_floor.specs.Written.{AreItems, EachTookItsBlock, IsOfInput, NoWriteFailed, OnlyLastFailed, TookItsBlock, WritesInput, attempt_turns}
+use Rattle.esa_floor.specs.Written.{AreItems, EachTookItsBlock, IsOfInput, TookItsBlock, WritesInput, attempt_turns}
 use Rattle.esa_floor.specs.declared.turn.Outcome.{Outcome}
 use Rattle.esa_floor.specs.declared.turn.Outcome.TheVariants as outcome
-use Rattle.esa_floor.proofs.Failing.{Moved, last_may_fail}
+use Rattle.esa_floor.proofs.Failing.{Moved, last_failed, some_bytes}
 use Rattle.esa_floor.proofs.Lasting.{turns-made, turns-stored}
 use Rattle.esa_floor.proofs.Writing.{took-ended}
 use Rattle.esa_load.specs.Loads.{failed_block, written_blocks, written_block, bucket_text}
@@ -35,13 +37,13 @@ use Rattle.esa_press.proofs.Fetching.{Spares}
 use Rattle.esa_press.proofs.Finishing.{chunks_are, queues_are, turns_are, turns_behind}
 use Rattle.esa_press.proofs.Storing.{spared_before, the_same_but}
 use Rattle.esa_press.proofs.Taking.{input_front}
-use Rattle.esa_press.specs.Contents.{AreOrders, AreQueued, AreTailsStored, EndsWriting, GoesOnPressing, HoldsDistribution, IsOfPress}
+use Rattle.esa_press.specs.Contents.{AreOrders, AreQueued, AreTailsStored, FailedByHalt, GoesOnPressing, HoldsDistribution, IsOfPress}
 use Rattle.esa_press.specs.Drained.{DrainEnd, failed_tail, stored_tail, tail_block}
 use Rattle.esa_press.specs.Over.{IsDistributed}
 use Rattle.esa_press.specs.declared.halt.Halt.{Halt}
 use Rattle.esa_press.specs.declared.halt.Halt.TheVariants as halt
-use Rattle.esa_shuffle.specs.Attempts.{WritesEnd, end_of, outcome_of}
-use Rattle.esa_shuffle.specs.Records.{WritesOf}
+use Rattle.esa_shuffle.specs.Attempts.{end_of, outcome_of}
+use Rattle.esa_shuffle.specs.Records.{FailedByOutcome}
 
 -- a log goes on with what spares the blocks of the input
 pub record Sparing (p : Sizes) (old new : List Carried) : Type 0 where
@@ -139,21 +141,21 @@ module _ {V : Type 0} (faults : V → ℕ) (p : Sizes) (ds : ℕ → Draw) (f x 
           (subst (λ (y : Parts V). HoldsDistribution y.plan y.run (ds a) (turns_made y) a record_of x.recorder.log) (sym drained) holds)
           (drains (turns_are faults p ds f a ready) queued took) input
 
--- which writes failed, where the rest of an attempt was not done
-pub rest_writes : (why : Halt) (log : List Carried) → EndsWriting {T = Unit {0}} (Err why) log → WritesEnd (end_of why) log
-rest_writes (halt.Verdict v) log none = none
-rest_writes (halt.Fault (fault.Device number)) log last = last
-rest_writes (halt.Fault (fault.Tampered number)) log none = none
+-- which accesses failed, where the rest of an attempt was not done
+pub rest_failed : (why : Halt) (log : List Carried) → FailedByHalt {T = Unit {0}} (Err why) log → FailedByFault (end_of why) log
+rest_failed (halt.Verdict v) log none = none
+rest_failed (halt.Fault (fault.Device number)) log last = last
+rest_failed (halt.Fault (fault.Tampered number)) log none = none
 
 -- an attempt that a failed access has cut did not succeed
 pub cut_short : (why : VaultFault) (a : ℕ) → outcome_of why ≡ outcome.Shuffled a → ⊥
 cut_short (fault.Device number) a same = cc
 cut_short (fault.Tampered number) a same = cc
 
--- which writes failed, at the end of an attempt that ends the run
-pub cut_writes : (why : VaultFault) (log : List Carried) → WritesEnd (Err why) log → WritesOf (outcome_of why) log
-cut_writes (fault.Device number) log last = last
-cut_writes (fault.Tampered number) log none = none
+-- which accesses failed, at the end of an attempt that ends the run
+pub cut_failed : (why : VaultFault) (log : List Carried) → FailedByFault {T = Verdict} (Err why) log → FailedByOutcome (outcome_of why) log
+cut_failed (fault.Device number) log last = last
+cut_failed (fault.Tampered number) log none = none
 
 -- the writes of a load
 module _ (p : Sizes) (run : Keys) (given : List ℕ) where
@@ -170,12 +172,12 @@ module _ (p : Sizes) (run : Keys) (given : List ℕ) where
   failed_input k inside =
       All-push (WritesInput p) (blocks k) (failed_block p k) (loaded_input k (omega (arith, inside))) (record { of = record { region = refl; planned = inside }; writes = refl })
 
-  pub loaded_writes : (k : ℕ) → NoWriteFailed (blocks k)
-  loaded_writes k =
-      All-map Moved (λ j. written_block p run j (bucket_text p given j)) (below k) (λ x d inside writes none. absurd (cc none))
+  pub loaded_failed : (k : ℕ) → NoneFailed (blocks k)
+  loaded_failed k =
+      All-map Moved (λ j. written_block p run j (bucket_text p given j)) (below k) (λ x d inside. some_bytes _)
 
-  pub failed_writes : (k : ℕ) → OnlyLastFailed (blocks k ++ failed_block p k ∷ [])
-  failed_writes k = last_may_fail (blocks k) (failed_block p k) (loaded_writes k)
+  pub failed_load : (k : ℕ) → OnlyLastFailed (blocks k ++ failed_block p k ∷ [])
+  failed_load k = last_failed (blocks k) (failed_block p k).access (loaded_failed k)
 
 -- a write of the input is to take no block
 pub took_none : (p : Sizes) (run : Keys) (ds : ℕ → Draw) (record_of : ℕ → Item) (turns : ℕ → List ℕ) (log : List Carried) → All (IsOfInput p) log

@@ -7,7 +7,7 @@ use Rattle.std.proofs.lemmas.Bool.{cases_lt}
 use Rattle.std.proofs.lemmas.List.Elements.{All-append, All-head, All-tail, All-take}
 use Rattle.esa_laws.proofs.FinishLaws.{All-below, All-nil, completes, completes-shortest}
 use Rattle.esa_device.specs.Recording.{Recorded}
-use Rattle.esa_ending.specs.Seen.{EndsWithTurn}
+use Rattle.esa_ending.specs.Seen.{EndsWithTurn, IsBehind}
 use Rattle.esa_laws.proofs.SpreadLaws.{spread-push}
 use Rattle.esa_laws.proofs.Tests.{equal}
 use Rattle.esa_params.specs.Sizes.{Sizes, below}
@@ -36,7 +36,7 @@ use Rattle.esa_crew.specs.Posts.{AreMembers, ArePosts, IsMember, IsNewWorker}
 use Rattle.esa_crew.specs.Replays.{IsReplayed, IsUnbroken}
 use Rattle.esa_floor.proofs.Resting.{working}
 use Rattle.esa_floor.proofs.Turning.{spread_is}
-use Rattle.esa_shuffle.specs.Attempts.{AddsAttempt, AttemptEnd, EndsByStop, StopsShort}
+use Rattle.esa_shuffle.specs.Attempts.{AddsAttempt, AttemptEnd, EndsBehind, EndsByStop, StopsShort}
 use Rattle.esa_shuffle.proofs.Storing.{turns_are}
 
 All-again : (w n : ℕ) → All (λ v. v < w) (again n (below w))
@@ -59,7 +59,7 @@ none_failed None all off = refl
 none_failed (Some k) all off = absurd (cc off)
 
 -- the last entries of the same list are the same
-last_same : (xs ys : List Access) (x y : Access) → xs ++ x ∷ [] ≡ ys ++ y ∷ [] → x ≡ y
+pub last_same : (xs ys : List Access) (x y : Access) → xs ++ x ∷ [] ≡ ys ++ y ∷ [] → x ≡ y
 last_same [] [] x y is = cc is
 last_same [] (v ∷ ys) x y is = absurd (let long = ap length is in let more = length-append ys (y ∷ []) in omega (arith, long, more))
 last_same (u ∷ xs) [] x y is = absurd (let long = ap length is in let more = length-append xs (x ∷ []) in omega (arith, long, more))
@@ -211,11 +211,12 @@ module _ {V : Type 0} (faults : V → ℕ) (p : Sizes) (ds : ℕ → Draw) (f be
         whole = all_taken result end;
       }
 
-      -- and where an access cut it they are all, or the last one made that access
+      -- and where an access cut it, the last one made that access, or they are all
       pub stops_short : (result : Result Verdict VaultFault) → EndsByStop new.stop result → (new.stop ≢ None → last.recorder ≡ new.recorder)
-          → (new.stop ≢ None → (before : List ℕ) × StopsAfter faults ds before new) → StopsShort f.plan a whole last result
-      stops_short (Ok v) stopped still stops = tt
-      stops_short (Err fault) stopped still stops = λ access ends. by new.stop refl stopped access ends
+          → (new.stop ≢ None → (before : List ℕ) × StopsAfter faults ds before new) → (new.stop ≡ None → EndsBehind a last.recorder.trace result)
+          → StopsShort f.plan a whole last result
+      stops_short (Ok v) stopped still stops behind = tt
+      stops_short (Err fault) stopped still stops behind = λ access ends. by new.stop refl stopped access ends
         where
           same_turns : turns_made new ≡ turns_made last
           same_turns = taken_turns ∙ sym last_turns
@@ -228,11 +229,12 @@ module _ {V : Type 0} (faults : V → ℕ) (p : Sizes) (ds : ℕ → Draw) (f be
               (broke at.0 at.1 number why access (subst (λ (r : Recorded V). EndsWith r.trace access) (still there) ends))
 
           by : (s : Option Stop) → new.stop ≡ s → EndsByStop s (Err fault) → (access : Access) → EndsWith last.recorder.trace access
-              → (turns_made last ≡ whole) ⊎ EndsWithTurn f.plan a (turns_made last) access
-          by None is end access ends = let long = replayed_on.whole (subst IsUnbroken (sym is) tt) in inl (last_turns ∙ take_all replayed_on.count whole (omega (arith, long)))
+              → EndsWithTurn f.plan a (turns_made last) access ⊎ ((turns_made last ≡ whole) × IsBehind a access)
+          by None is end access ends =
+              let long = replayed_on.whole (subst IsUnbroken (sym is) tt) in inr (last_turns ∙ take_all replayed_on.count whole (omega (arith, long)), behind is access ends)
           by (Some (stop.StashOverflow j)) is end access ends = absurd (cc end)
-          by (Some (stop.DeviceFault number)) is end access ends = inr (stops_with number (λ none. cc (sym is ∙ none)) (inl is) access ends)
-          by (Some (stop.Tampered number)) is end access ends = inr (stops_with number (λ none. cc (sym is ∙ none)) (inr is) access ends)
+          by (Some (stop.DeviceFault number)) is end access ends = inl (stops_with number (λ none. cc (sym is ∙ none)) (inl is) access ends)
+          by (Some (stop.Tampered number)) is end access ends = inl (stops_with number (λ none. cc (sym is ∙ none)) (inr is) access ends)
 
 -- who stands at a post is a member, whatever was made of recorder and stash
 pub members_on : {V C : Type 0} (ds : ℕ → Draw) (target_lists : C → ℕ → ℕ → List ℕ) (f g : Parts V) (workers : List (Working C))

@@ -1,9 +1,8 @@
 -- How an attempt of a run ends, and what it adds to the history.
 use Rattle.std.specs.Prelude.{◌≡◌, ◌⊎◌, ℕ, List, [], ◌∷◌, ◌++◌, take, true, Option, Some, None, Result, Ok, Err, OnOk}
-use Rattle.esa_device.specs.Logs.{Carried}
 use Rattle.esa_params.specs.Sizes.{Sizes}
 use Rattle.esa_params.specs.declared.slot.Access.{Access}
-use Rattle.esa_ending.specs.Seen.{EndsWithTurn}
+use Rattle.esa_ending.specs.Seen.{EndsWithTurn, IsBehind}
 use Rattle.esa_spec.specs.Draws.{Draw}
 use Rattle.esa_spec.specs.Fronts.{EndsWith}
 use Rattle.esa_spec.specs.Verdicts.{is_finished, verdict}
@@ -14,7 +13,6 @@ use Rattle.esa_vault.specs.declared.fault.VaultFault.TheVariants as fault
 use Rattle.esa_floor.specs.Ends.{IsOver}
 use Rattle.esa_floor.specs.Parts.{Parts, ended_as}
 use Rattle.esa_floor.specs.Standing.{Stands, turns_made}
-use Rattle.esa_floor.specs.Written.{NoWriteFailed, OnlyLastFailed}
 use Rattle.esa_floor.specs.declared.turn.Outcome.{Outcome}
 use Rattle.esa_floor.specs.declared.turn.Outcome.TheVariants as outcome
 use Rattle.esa_floor.specs.declared.turn.Stop.{Stop}
@@ -45,20 +43,20 @@ EndsByStop (Some (stop.StashOverflow j)) result = result ≡ Ok (verdicts.StashO
 EndsByStop (Some (stop.DeviceFault number)) result = result ≡ Err (fault.Device number)
 EndsByStop (Some (stop.Tampered number)) result = result ≡ Err (fault.Tampered number)
 
--- which writes failed by the end of an attempt, where none failed before: none, or the last access alone
-abbrev pub WritesEnd : Result Verdict VaultFault → List Carried → Type 0
-WritesEnd (Ok v) log = NoWriteFailed log
-WritesEnd (Err (fault.Device number)) log = OnlyLastFailed log
-WritesEnd (Err (fault.Tampered number)) log = NoWriteFailed log
-
 -- an attempt added the owner's entry to the history, and the first of these turns: all of them, where it is over
 pub record AddsAttempt (p : Sizes) (h old new : List ℕ) (result : Result Verdict VaultFault) : Type 0 where
   pub count : ℕ
   pub history : new ≡ (old ++ p.workers ∷ []) ++ take count h
   pub whole : OnOk result (take count h ≡ h)
 
--- where an access cut attempt a, all of its turns h were made, or the last one that was made made the last access
+-- where an access cut attempt a after all of its turns, it comes behind them
+abbrev pub EndsBehind : ℕ → List Access → Result Verdict VaultFault → Type 0
+EndsBehind a accesses (Ok v) = Unit {0}
+EndsBehind a accesses (Err fault) = (access : Access) → EndsWith accesses access → IsBehind a access
+
+-- where an access cut attempt a, the last of its turns that was made made that access. Or all of its turns h were made, and
+-- the access comes behind them
 abbrev pub StopsShort : {V : Type 0} → Sizes → ℕ → List ℕ → Parts V → Result Verdict VaultFault → Type 0
 StopsShort p a h f (Ok v) = Unit {0}
 StopsShort p a h f (Err fault) =
-    (access : Access) → EndsWith f.recorder.trace access → (turns_made f ≡ h) ⊎ EndsWithTurn p a (turns_made f) access
+    (access : Access) → EndsWith f.recorder.trace access → EndsWithTurn p a (turns_made f) access ⊎ ((turns_made f ≡ h) × IsBehind a access)

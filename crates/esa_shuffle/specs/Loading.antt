@@ -1,7 +1,7 @@
 -- The load of a run: a floor on which nothing was done, and how the load ends.
 use Rattle.std.specs.Prelude.{◌≡◌, ℕ, ◌*◌, ◌<◌, ◌≤◌, ◌++◌, List, [], flat_map, length, take, Option, Some, None, Result, Ok, Err, OnOk}
 use Rattle.std.specs.List.{concat}
-use Rattle.esa_device.specs.Logs.{Carried, IsFaithful}
+use Rattle.esa_device.specs.Logs.{Carried, IsFaithful, NoneFailed}
 use Rattle.esa_load.specs.Loads.{bucket_text}
 use Rattle.esa_outside.specs.Heard.{Event}
 use Rattle.esa_params.specs.Form.{envelope_length}
@@ -11,10 +11,9 @@ use Rattle.esa_floor.specs.Keeping.{HasInput}
 use Rattle.esa_spec.specs.Histories.{begun}
 use Rattle.esa_floor.specs.Parts.{Parts, begun_as, ended_as}
 use Rattle.esa_floor.specs.Standing.{Stands}
-use Rattle.esa_floor.specs.Written.{NoWriteFailed}
 use Rattle.esa_floor.specs.declared.turn.Outcome.{Outcome}
 use Rattle.esa_floor.specs.declared.turn.Outcome.TheVariants as outcome
-use Rattle.esa_shuffle.specs.Records.{IsWrittenFrom, WritesOf, inputs_written, record_at}
+use Rattle.esa_shuffle.specs.Records.{FailedByOutcome, IsWrittenFrom, inputs_written, record_at}
 use Rattle.esa_shuffle.specs.Runs.{IsCounted}
 
 -- a floor on which nothing was done, with room for an entry more
@@ -68,10 +67,10 @@ pub record HasGiven (p : Sizes) (told : Option (List (List ℕ))) (part : ℕ �
   pub load : IsGiven p told part before after all given
   pub became : Became given
 
--- which writes failed in a load: none, or the last access alone, where it ended the run
-abbrev pub WritesLoaded : {T : Type 0} → Result T Outcome → List Carried → Type 0
-WritesLoaded (Ok done) log = NoWriteFailed log
-WritesLoaded (Err o) log = WritesOf o log
+-- which accesses failed in a load: none, or the last one alone, where it ended the run
+abbrev pub FailedByLoad : {T : Type 0} → Result T Outcome → List Carried → Type 0
+FailedByLoad (Ok done) log = NoneFailed log
+FailedByLoad (Err o) log = FailedByOutcome o log
 
 -- a floor has what a batch gave as its input, where its log is faithful
 abbrev pub TakesInput : {V : Type 0} → Parts V → List ℕ → Type 0

@@ -1,10 +1,10 @@
 -- What becomes of the records of a batch.
 use Rattle.std.specs.Prelude.{◌≡◌, ℕ, ◌*◌, ◌&&◌, Bool, true, false, List, All, Some, length, map, count_by}
-use Rattle.esa_device.specs.Logs.{Carried, IsFaithful}
+use Rattle.esa_device.specs.Logs.{Carried, IsFaithful, NoneFailed, OnlyLastFailed}
 use Rattle.esa_ending.specs.Seen.{turns_in}
 use Rattle.esa_envelope.specs.declared.keys.Keys.{Keys}
 use Rattle.esa_floor.specs.Private.{item_opened}
-use Rattle.esa_floor.specs.Written.{EachButLast, GaveItsBlock, NoWriteFailed, OnlyLastFailed, TookItsBlock}
+use Rattle.esa_floor.specs.Written.{EachButLast, GaveItsBlock, TookItsBlock}
 use Rattle.esa_floor.specs.declared.turn.Outcome.{Outcome}
 use Rattle.esa_floor.specs.declared.turn.Outcome.TheVariants as outcome
 use Rattle.esa_load.specs.Loads.{bucket_text}
@@ -24,13 +24,13 @@ use Rattle.esa_vault.specs.Seals.{sealed_block}
 abbrev pub record_at : Sizes → Keys → List ℕ → ℕ → Item
 record_at p outer given = item_opened outer (envelope_length p.form) given
 
--- which writes of a run failed, by its outcome: none, or the last access alone, where the device failed
-abbrev pub WritesOf : Outcome → List Carried → Type 0
-WritesOf (outcome.Shuffled a) log = NoWriteFailed log
-WritesOf outcome.Overflow log = NoWriteFailed log
-WritesOf (outcome.DeviceFault number) log = OnlyLastFailed log
-WritesOf (outcome.Tampered number) log = NoWriteFailed log
-WritesOf outcome.BatchFailed log = NoWriteFailed log
+-- which accesses of a run failed, by its outcome: none, or the last one alone, where the device failed
+abbrev pub FailedByOutcome : Outcome → List Carried → Type 0
+FailedByOutcome (outcome.Shuffled a) log = NoneFailed log
+FailedByOutcome outcome.Overflow log = NoneFailed log
+FailedByOutcome (outcome.DeviceFault number) log = OnlyLastFailed log
+FailedByOutcome (outcome.Tampered number) log = NoneFailed log
+FailedByOutcome outcome.BatchFailed log = NoneFailed log
 
 -- a region is the input
 abbrev pub is_input : Region → Bool
@@ -73,10 +73,10 @@ pub record IsShuffledFrom (p : Sizes) (ds : ℕ → Draw) (hs : List (List ℕ))
   -- the latest write of each block of the output took the seal of the records of its places, in order, in the attempt that
   -- succeeded
   pub output : (a : ℕ) → o ≡ outcome.Shuffled a → IsFaithful p log → AreOutputsStored p run (ds a) (turns_in hs a) a (record_at p outer given) p.b log
-  -- however the run ended, each write took the block that the turns of its attempt make of the records, and none failed but
-  -- the one at which the device failed
+  -- however the run ended, each write took the block that the turns of its attempt make of the records. No access failed but
+  -- the last one, where the device failed
   pub took : IsFaithful p log → All (TookItsBlock p run ds (record_at p outer given) (turns_in (lists p.workers history))) log
-  pub failed : WritesOf o log
+  pub failed : FailedByOutcome o log
   -- of the input that is so whatever the device did
   pub written : IsWrittenFrom p run given log
   -- and each read gave its block, whether the log is faithful or not

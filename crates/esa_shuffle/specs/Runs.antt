@@ -15,7 +15,7 @@ use Rattle.esa_spec.specs.Traces.{good_attempt, shuffle_trace, writes_in, writte
 use Rattle.esa_spec.specs.declared.event.Verdict.{Verdict}
 use Rattle.esa_vault.specs.Seals.{opens}
 use Rattle.esa_ending.specs.Endings.{BatchFails, BlockIsTampered, DeviceFails, Overflows}
-use Rattle.esa_ending.specs.Seen.{AreCut, HasHistory, IsCalm, NoTurnBehind, Seen, history_of, stored, verdict_in}
+use Rattle.esa_ending.specs.Seen.{AreCut, HasHistory, HistoryEnds, IsCalm, Seen, history_of, stored, verdict_in}
 use Rattle.esa_floor.specs.Parts.{Parts, ended_as}
 use Rattle.esa_floor.specs.Standing.{Stands}
 use Rattle.esa_floor.specs.declared.turn.Outcome.{Outcome}
@@ -93,6 +93,14 @@ AreStored made hs (outcome.DeviceFault number) = AreCut made hs
 AreStored made hs (outcome.Tampered number) = AreCut made hs
 AreStored made hs outcome.BatchFailed = made ≡ []
 
+-- where an access cut a run that took the turns hs one after another, the turns that were stored end with it
+abbrev pub EndWithCut : Sizes → (made hs : List (List ℕ)) → List Access → Outcome → Type 0
+EndWithCut p made hs accesses (outcome.DeviceFault number) = (access : Access) → EndsWith accesses access → HistoryEnds p made hs access
+EndWithCut p made hs accesses (outcome.Tampered number) = (access : Access) → EndsWith accesses access → HistoryEnds p made hs access
+EndWithCut p made hs accesses (outcome.Shuffled a) = Unit {0}
+EndWithCut p made hs accesses outcome.Overflow = Unit {0}
+EndWithCut p made hs accesses outcome.BatchFailed = Unit {0}
+
 -- what the batch counted of its faults, before the run and after it, by the outcome: its count rose where it failed, which is
 -- before the last block of the input was written
 abbrev pub IsCounted : ℕ → ℕ → ℕ → ℕ → Outcome → Type 0
@@ -113,6 +121,5 @@ pub record MayEnd {V : Type 0} (faults : V → ℕ) (p : Sizes) (ds : ℕ → Dr
   pub room : length f.history < f.room
   pub history : f.history ++ p.workers ∷ [] ≡ history_of p (lists_ended p f)
   pub turns : AreStored (lists_ended p f) hs o
-  pub behind : (access : Access) → EndsWith f.recorder.trace access → NoTurnBehind p (lists_ended p f) hs access
   pub failed : failures ≡ map (verdict_in p ds hs) (below (failed_of o (length (lists_ended p f))))
   pub batch : IsCounted p.b (length f.recorder.trace) before now o

@@ -1,19 +1,20 @@
 //! One attempt of a run.
 
 ghost use Rattle.std.specs.Prelude.{◌≡◌, ℕ, ◌+◌, ◌<◌, ◌≤◌, All, None, Ok, length, map};
-ghost use Rattle.esa_device.specs.Logs.{Carried, IsFaithful};
+ghost use Rattle.esa_device.specs.Logs.{Carried, IsFaithful, NoneFailed};
 ghost use Rattle.esa_crew.specs.Posts.{AreMembers};
 ghost use Rattle.esa_floor.specs.Keeping.{HasInput};
 ghost use Rattle.esa_floor.specs.Marks.{roots_of};
 ghost use Rattle.esa_floor.specs.Parts.{begun_as};
 ghost use Rattle.esa_floor.specs.Standing.{Stands};
-ghost use Rattle.esa_floor.specs.Written.{AreItems, EachGaveItsBlock, EachTookItsBlock, EachUntil, GaveItsOwn, NoWriteFailed};
+ghost use Rattle.esa_floor.specs.Written.{AreItems, EachGaveItsBlock, EachTookItsBlock, EachUntil, GaveItsOwn};
 ghost use Rattle.esa_params.specs.Slots.{item_length};
 ghost use Rattle.esa_press.specs.Contents.{AreOrders, AreOutputsStored};
 ghost use Rattle.esa_report.specs.declared.item.Item.{Item};
 ghost use Rattle.esa_spec.specs.Completion.{completed, full};
 ghost use Rattle.esa_spec.specs.Fronts.{Begins};
-ghost use Rattle.esa_shuffle.specs.Attempts.{AddsAttempt, AttemptEnd, StopsShort, WritesEnd};
+ghost use Rattle.esa_shuffle.specs.Attempts.{AddsAttempt, AttemptEnd, StopsShort};
+ghost use Rattle.esa_vault.specs.Traffic.{FailedByFault};
 
 use crate::rest::finish;
 use esa_crew::{begin, replay};
@@ -64,7 +65,7 @@ pub(crate) fn make_attempt<V: Device, G: Told, C: Coins>(
         → AreOutputsStored floor.old.plan floor.old.run (G.draws attempt) (full floor.old.plan (G.draws attempt) turns.now) attempt record_of floor.old.plan.b floor.new.recorder.log }
     ensures took { (record_of : ℕ → Item) → AreItems (item_length floor.old.plan.form) record_of
         → EachTookItsBlock G.draws record_of floor.old → EachTookItsBlock G.draws record_of floor.new }
-    ensures writes { NoWriteFailed floor.old.recorder.log → WritesEnd result floor.new.recorder.log }
+    ensures failed { NoneFailed floor.old.recorder.log → FailedByFault result floor.new.recorder.log }
     ensures reads { EachGaveItsBlock G.draws floor.old → EachUntil (GaveItsOwn G.draws floor.new) result floor.new.recorder.log }
     ensures origin { roots_of floor.new ≡ roots_of floor.old }
     ensures outcome { floor.new.outcome ≡ None }

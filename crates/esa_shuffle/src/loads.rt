@@ -3,7 +3,7 @@
 ghost use Rattle.std.specs.Prelude.{◌≡◌, All, IsOk, []};
 ghost use Rattle.esa_floor.specs.Written.{WritesInput};
 ghost use Rattle.esa_params.specs.Form.{envelope_length};
-ghost use Rattle.esa_shuffle.specs.Loading.{EndsLoad, HasGiven, IsUnbegun, TakesBatch, WritesLoaded};
+ghost use Rattle.esa_shuffle.specs.Loading.{EndsLoad, FailedByLoad, HasGiven, IsUnbegun, TakesBatch};
 
 use esa_crew::loaded_floors_begin;
 use esa_device::Device;
@@ -26,7 +26,7 @@ pub fn load<V: Device, G: Told, R: Records>(
     ensures given { HasGiven floor.old.plan (R.told batch.old) (R.part (R.grounds batch.old)) (R.heard batch.old) (R.heard batch.new) (IsOk result)
         (TakesBatch floor.old floor.new result) }
     ensures input { floor.old.recorder.log ≡ [] → All (WritesInput floor.new.plan) floor.new.recorder.log }
-    ensures writes { floor.old.recorder.log ≡ [] → WritesLoaded result floor.new.recorder.log }
+    ensures failed { floor.old.recorder.log ≡ [] → FailedByLoad result floor.new.recorder.log }
     ensures floor { floor.new ≡ record floor.old { recorder = floor.new.recorder } }
     ensures told { R.told batch.new ≡ R.told batch.old }
     ensures grounds { R.grounds batch.new ≡ R.grounds batch.old }

@@ -1,16 +1,17 @@
 //! What comes after the turns of an attempt: the drain and the compression.
 
 ghost use Rattle.std.specs.Prelude.{◌≡◌, ◌≢◌, ℕ, ◌*◌, ◌<◌, None, Ok, Some, length};
-ghost use Rattle.esa_device.specs.Logs.{IsFaithful};
+ghost use Rattle.esa_device.specs.Logs.{IsFaithful, NoneFailed};
 ghost use Rattle.esa_floor.specs.Keeping.{HasInput, QueuesHold, SlotsHold};
 ghost use Rattle.esa_floor.specs.Standing.{Stands, turns_made};
-ghost use Rattle.esa_floor.specs.Written.{AreItems, EachGaveItsBlock, EachTookItsBlock, EachUntil, GaveItsOwn, NoWriteFailed, ReadsGaveTheirBlocks, WritesFailed};
+ghost use Rattle.esa_floor.specs.Written.{AreItems, EachGaveItsBlock, EachTookItsBlock, EachUntil, FailedByStop, GaveItsOwn, ReadsGaveTheirBlocks};
 ghost use Rattle.esa_params.specs.Slots.{item_length};
 ghost use Rattle.esa_press.specs.Contents.{AreOrders, AreOutputsStored};
 ghost use Rattle.esa_press.specs.Over.{IsDistributed};
 ghost use Rattle.esa_report.specs.declared.item.Item.{Item};
 ghost use Rattle.esa_spec.specs.Fronts.{Begins};
-ghost use Rattle.esa_shuffle.specs.Attempts.{AttemptEnd, EndsByStop, WritesEnd, end_of};
+ghost use Rattle.esa_shuffle.specs.Attempts.{AttemptEnd, EndsBehind, EndsByStop, end_of};
+ghost use Rattle.esa_vault.specs.Traffic.{FailedByFault};
 
 use esa_device::Device;
 use esa_floor::{Floor, Stop, Told};
@@ -52,8 +53,9 @@ fn press_on<V: Device, G: Told, C: Coins>(
         → AreOutputsStored floor.old.plan floor.old.run (G.draws attempt) (turns_made floor.old) attempt record_of floor.old.plan.b floor.new.recorder.log }
     ensures took { (record_of : ℕ → Item) → AreItems (item_length floor.old.plan.form) record_of → QueuesHold G.draws floor.old → SlotsHold G.draws floor.old
         → EachTookItsBlock G.draws record_of floor.old → EachTookItsBlock G.draws record_of floor.new }
-    ensures writes { NoWriteFailed floor.old.recorder.log → WritesEnd result floor.new.recorder.log }
+    ensures failed { NoneFailed floor.old.recorder.log → FailedByFault result floor.new.recorder.log }
     ensures reads { EachGaveItsBlock G.draws floor.old → EachUntil (GaveItsOwn G.draws floor.new) result floor.new.recorder.log }
+    ensures behind { EndsBehind attempt floor.new.recorder.trace result }
     ensures plan { press.new.plan ≡ press.old.plan }
     ensures run { press.new.run ≡ press.old.run }
 {
@@ -94,10 +96,11 @@ pub fn finish<V: Device, G: Told, C: Coins>(
         → AreOutputsStored floor.old.plan floor.old.run (G.draws attempt) (turns_made floor.old) attempt record_of floor.old.plan.b floor.new.recorder.log }
     ensures took { (record_of : ℕ → Item) → AreItems (item_length floor.old.plan.form) record_of → QueuesHold G.draws floor.old → SlotsHold G.draws floor.old
         → EachTookItsBlock G.draws record_of floor.old → EachTookItsBlock G.draws record_of floor.new }
-    ensures writes { WritesFailed floor.old.stop floor.old.recorder.log → WritesEnd result floor.new.recorder.log }
+    ensures failed { FailedByStop floor.old.stop floor.old.recorder.log → FailedByFault result floor.new.recorder.log }
     ensures reads { ReadsGaveTheirBlocks G.draws floor.old → EachUntil (GaveItsOwn G.draws floor.new) result floor.new.recorder.log }
     ensures stopped { EndsByStop floor.old.stop result }
     ensures still { floor.old.stop ≢ None → floor.new ≡ floor.old }
+    ensures behind { floor.old.stop ≡ None → EndsBehind attempt floor.new.recorder.trace result }
     ensures plan { press.new.plan ≡ press.old.plan }
     ensures run { press.new.run ≡ press.old.run }
 {

@@ -2,13 +2,13 @@
 
 ghost use Rattle.std.specs.Prelude.{◌≡◌, ◌≢◌, ◌∷◌, ◌++◌, ◌+◌, ◌<◌, ◌≤◌, ℕ, [], Some, length};
 ghost use Rattle.esa_crew.specs.Posts.{AreMembers};
-ghost use Rattle.esa_device.specs.Logs.{IsFaithful};
+ghost use Rattle.esa_device.specs.Logs.{IsFaithful, NoneFailed};
 ghost use Rattle.esa_ending.specs.Seen.{turns_in};
 ghost use Rattle.esa_floor.specs.Keeping.{HasInput};
 ghost use Rattle.esa_floor.specs.Marks.{roots_of};
 ghost use Rattle.esa_floor.specs.Parts.{begun_as};
 ghost use Rattle.esa_floor.specs.Standing.{Stands};
-ghost use Rattle.esa_floor.specs.Written.{AreItems, EachGaveItsBlock, EachTookItsBlock, GaveItsOwn, NoWriteFailed};
+ghost use Rattle.esa_floor.specs.Written.{AreItems, EachGaveItsBlock, EachTookItsBlock, GaveItsOwn};
 ghost use Rattle.esa_model.specs.Forecast.{made};
 ghost use Rattle.esa_model.specs.Turns.{AreWorkers};
 ghost use Rattle.esa_params.specs.Form.{envelope_length};
@@ -18,11 +18,12 @@ ghost use Rattle.esa_press.specs.Contents.{AreOutputsStored};
 ghost use Rattle.esa_report.specs.declared.item.Item.{Item};
 ghost use Rattle.esa_spec.specs.Draws.{drawn};
 ghost use Rattle.esa_spec.specs.Fronts.{Begins};
+ghost use Rattle.esa_spec.specs.Histories.{lists};
 ghost use Rattle.esa_spec.specs.Verdicts as verdicts;
 ghost use Rattle.esa_shuffle.specs.Attempts.{outcome_of};
 ghost use Rattle.esa_shuffle.specs.Loading.{HasGiven, IsNewFloor};
-ghost use Rattle.esa_shuffle.specs.Records.{IsShuffledFrom, ReadsOf, WritesOf};
-ghost use Rattle.esa_shuffle.specs.Runs.{EndsRun, MayEnd, entries_before, opens_last, seen_of};
+ghost use Rattle.esa_shuffle.specs.Records.{FailedByOutcome, IsShuffledFrom, ReadsOf};
+ghost use Rattle.esa_shuffle.specs.Runs.{EndWithCut, EndsRun, MayEnd, entries_before, lists_ended, opens_last, seen_of};
 
 use crate::attempt::make_attempt;
 use crate::failures::Failures;
@@ -92,6 +93,7 @@ fn make_attempts<V: Device, G: Told, C: Coins>(
     requires coins { C.plan coins.now ≡ G.plan }
     requires draws { (a : ℕ) → G.draws a ≡ drawn (C.target_list coins.now) (C.order_list coins.now) a }
     ensures ends { (count : ℕ) → MayEnd V.faults G.plan G.draws (made G.plan G.draws turns.now) count count floor.new failures.new result }
+    ensures cut { EndWithCut G.plan (lists_ended G.plan floor.new) (made G.plan G.draws turns.now) floor.new.recorder.trace result }
     ensures log { Begins floor.old.recorder.log floor.new.recorder.log }
 
     // Where the input has these records and the log is faithful, the output of the attempt that succeeded has those of its
@@ -101,10 +103,10 @@ fn make_attempts<V: Device, G: Told, C: Coins>(
         → AreOutputsStored G.plan floor.old.run (G.draws a) (turns_in (made G.plan G.draws turns.now) a) a record_of G.plan.b floor.new.recorder.log }
     ensures input { (record_of : ℕ → Item) → IsFaithful G.plan floor.new.recorder.log → HasInput floor.old record_of → HasInput floor.new record_of }
 
-    // However the attempts ended, each write took its block, and none failed but the last.
+    // However the attempts ended, each write took its block, and no access failed but the last one.
     ensures took { (record_of : ℕ → Item) → AreItems (item_length G.plan.form) record_of
         → EachTookItsBlock G.draws record_of floor.old → EachTookItsBlock G.draws record_of floor.new }
-    ensures writes { NoWriteFailed floor.old.recorder.log → WritesOf result floor.new.recorder.log }
+    ensures failed { NoneFailed floor.old.recorder.log → FailedByOutcome result floor.new.recorder.log }
 
     // So each read gave its block, for every device.
     ensures reads { EachGaveItsBlock G.draws floor.old → ReadsOf (GaveItsOwn G.draws floor.new) result floor.new.recorder.log }
@@ -149,6 +151,7 @@ fn load_and_run<V: Device, G: Told, C: Coins, R: Records>(
     requires count { R.count batch.old ≡ G.plan.n }
     requires size { R.size batch.old ≡ envelope_length G.plan.form }
     ensures ends { MayEnd V.faults G.plan G.draws (made G.plan G.draws turns.now) (R.faults batch.old) (R.faults batch.new) floor.new failures.new result }
+    ensures cut { EndWithCut G.plan (lists_ended G.plan floor.new) (made G.plan G.draws turns.now) floor.new.recorder.trace result }
     ensures given { HasGiven G.plan (R.told batch.old) (R.part (R.grounds batch.old)) (R.heard batch.old) (R.heard batch.new) (floor.new.history ≢ [])
         (IsShuffledFrom G.plan G.draws (made G.plan G.draws turns.now) floor.old.outer floor.old.run (floor.new.history ++ G.plan.workers ∷ []) floor.new.recorder.log result) }
     ensures origin { roots_of floor.new ≡ roots_of floor.old }
@@ -200,6 +203,7 @@ pub(crate) fn run_on<V: Device, G: Told, C: Coins, R: Records>(
     requires size { R.size batch.old ≡ envelope_length G.plan.form }
     ensures ends { EndsRun G.plan G.draws (made G.plan G.draws turns.now) (seen_of V.faults floor.faults (R.faults batch.old) result.recorder result.history (R.faults batch.new))
         (opens_last G.plan floor.run result.recorder.last) result.failures result.outcome }
+    ensures cut { EndWithCut G.plan (lists G.plan.workers result.history) (made G.plan G.draws turns.now) result.recorder.trace result.outcome }
     ensures given { HasGiven G.plan (R.told batch.old) (R.part (R.grounds batch.old)) (R.heard batch.old) (R.heard batch.new) (result.history ≢ G.plan.workers ∷ [])
         (IsShuffledFrom G.plan G.draws (made G.plan G.draws turns.now) floor.outer floor.run result.history result.recorder.log result.outcome) }
     ensures ready { result.recorder.plan ≡ Some G.plan }

@@ -1,7 +1,7 @@
 -- One access to the memory: what a recorder keeps of it, what it leaves in the slot, and what it answers.
 use Rattle.std.specs.Prelude.{◌≡◌, ℕ, ◌+◌, ◌<◌, Bool, true, false, List, [], ◌∷◌, ◌++◌, length, slice_set, Option, Some, None, Result, Ok, Err, OnOk, OnErr, IsOk, slice_get, unwrap_or}
 use Rattle.esa_device.specs.Blocks.{ChangesBlock}
-use Rattle.esa_device.specs.Logs.{Carried, IsFaithful, Took, carried_by}
+use Rattle.esa_device.specs.Logs.{Carried, IsFaithful, NoneFailed, OnlyLastFailed, Took, carried_by}
 use Rattle.esa_device.specs.Recording.{Recorded}
 use Rattle.esa_envelope.specs.declared.keys.Keys.{Keys}
 use Rattle.esa_params.specs.Sizes.{Sizes}
@@ -52,6 +52,12 @@ abbrev pub OnFault : {T : Type 0} → Result T VaultFault → Type 0 → Type 0
 OnFault (Ok done) fact = Unit {0}
 OnFault (Err (Device slot)) fact = fact
 OnFault (Err (Tampered slot)) fact = Unit {0}
+
+-- which accesses of a log failed, by the answer to the last one: none, or that one alone, where the device failed
+abbrev pub FailedByFault : {T : Type 0} → Result T VaultFault → List Carried → Type 0
+FailedByFault (Ok done) log = NoneFailed log
+FailedByFault (Err (Device slot)) log = OnlyLastFailed log
+FailedByFault (Err (Tampered slot)) log = NoneFailed log
 
 -- the bytes that a read gave: also those that don't open
 abbrev pub given_by : {T : Type 0} → Result T VaultFault → List ℕ → Option (List ℕ)

@@ -4,7 +4,7 @@ use mathlib.Core.List.{IsPrefix}
 use Rattle.std.proofs.Math.Nat.{mul-le-mul_right}
 use Rattle.esa_laws.proofs.FinishLaws.{turns_of-append}
 use Rattle.esa_laws.proofs.HistoryLaws.{begun-owner, latest-owner}
-use Rattle.esa_device.specs.Logs.{Carried, IsFaithful}
+use Rattle.esa_device.specs.Logs.{Carried, IsFaithful, NoneFailed}
 use Rattle.esa_floor.specs.Keeping.{HasInput, QueuesHold, SlotsHold}
 use Rattle.esa_report.specs.declared.item.Item.{Item}
 use Rattle.esa_params.specs.Sizes.{Sizes}
@@ -17,7 +17,7 @@ use Rattle.esa_floor.specs.Standing.{Stands, attempt_begun, turns_made}
 use Rattle.esa_floor.specs.Trails.{IsKept, trail_of}
 use Rattle.esa_floor.specs.Workers.{IsOfFloor}
 use Rattle.esa_floor.specs.Working.{IsReady, Working}
-use Rattle.esa_floor.specs.Written.{AreItems, EachGaveItsBlock, EachTookItsBlock, NoWriteFailed, ReadsGaveTheirBlocks, WritesFailed}
+use Rattle.esa_floor.specs.Written.{AreItems, EachGaveItsBlock, EachTookItsBlock, FailedByStop, ReadsGaveTheirBlocks}
 use Rattle.esa_floor.proofs.Queueing.{queues_begun}
 use Rattle.esa_floor.proofs.Resting.{working}
 use Rattle.esa_floor.proofs.Storing.{slots_begun}
@@ -128,7 +128,7 @@ pub record HasFound {V : Type 0} (faults : V → ℕ) (ds : ℕ → Draw) (p : S
 -- the floor of an attempt that was begun holds nothing of records yet. What was written before took its blocks
 pub kept_begun : {V : Type 0} (faults : V → ℕ) (p : Sizes) (ds : ℕ → Draw) (f begun_f : Parts V) (a : ℕ) → begun_f ≡ begun_as f a → Stands faults p ds begun_f
     → map (λ (entry : Carried). entry.access) begun_f.recorder.log ≡ begun_f.recorder.trace
-    → ((record_of : ℕ → Item) → AreItems (item_length p.form) record_of → EachTookItsBlock ds record_of f) → NoWriteFailed f.recorder.log
+    → ((record_of : ℕ → Item) → AreItems (item_length p.form) record_of → EachTookItsBlock ds record_of f) → NoneFailed f.recorder.log
     → EachGaveItsBlock ds f → IsKept faults p ds begun_f
 kept_begun faults p ds f begun_f a is stands logged took none gave = record {
   stands = stands;
@@ -136,7 +136,7 @@ kept_begun faults p ds f begun_f a is stands logged took none gave = record {
   queues = subst (λ (x : Parts _). QueuesHold ds x) (sym is) (queues_begun ds f a);
   slots = subst (λ (x : Parts _). SlotsHold ds x) (sym is) (slots_begun ds f a);
   took = λ record_of items. subst (λ (x : Parts _). EachTookItsBlock ds record_of x) (sym is) (took-begun ds record_of f a (took record_of items));
-  writes = subst (λ (x : Parts _). WritesFailed x.stop x.recorder.log) (sym is) none;
+  failed = subst (λ (x : Parts _). FailedByStop x.stop x.recorder.log) (sym is) none;
   reads = subst (λ (x : Parts _). ReadsGaveTheirBlocks ds x) (sym is) (gave-begun ds f a gave);
 }
 

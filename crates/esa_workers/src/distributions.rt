@@ -1,12 +1,12 @@
 //! The distribution of an attempt by a crew.
 
 ghost use Rattle.std.specs.Prelude.{◌≡◌, ◌+◌, ◌*◌, ◌<◌, ◌≤◌, ◌++◌, ◌∷◌, ℕ, [], None, Some, length, slice_index_or};
-ghost use Rattle.esa_device.specs.Logs.{IsFaithful};
+ghost use Rattle.esa_device.specs.Logs.{IsFaithful, NoneFailed};
 ghost use Rattle.esa_floor.specs.Keeping.{HasInput};
 ghost use Rattle.esa_floor.specs.Parts.{begun_as};
 ghost use Rattle.esa_floor.specs.Standing.{Stands, turns_made};
 ghost use Rattle.esa_floor.specs.Trails.{IsKept};
-ghost use Rattle.esa_floor.specs.Written.{AreItems, EachGaveItsBlock, EachTookItsBlock, NoWriteFailed};
+ghost use Rattle.esa_floor.specs.Written.{AreItems, EachGaveItsBlock, EachTookItsBlock};
 ghost use Rattle.esa_params.specs.Slots.{item_length};
 ghost use Rattle.esa_report.specs.declared.item.Item.{Item};
 ghost use Rattle.esa_spec.specs.Fronts.{Begins};
@@ -46,7 +46,7 @@ pub fn distribute<
     requires stands { Stands V.faults G.plan G.draws (begun_as held.value attempt) }
     requires some { 1 ≤ G.plan.workers }
     requires took { (record_of : ℕ → Item) → AreItems (item_length G.plan.form) record_of → EachTookItsBlock G.draws record_of held.value }
-    requires writes { NoWriteFailed held.value.recorder.log }
+    requires failed { NoneFailed held.value.recorder.log }
     requires reads { EachGaveItsBlock G.draws held.value }
     requires floor { HasFloor G.plan turnstile.now owner.old held.value }
     requires tickets { 2 ≤ left_of owner.old }

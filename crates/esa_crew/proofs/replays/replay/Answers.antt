@@ -96,7 +96,7 @@ loop-made-init g c = record {
   slots = λ all queues slots. slots;
   took = λ record_of all queues took. took;
   log = ([], sym (append-nil c.args.floor.now.recorder.log));
-  writes = λ before. before;
+  failed = λ before. before;
   reads = λ before. before;
   stops = λ ran halted. absurd (halted ran);
   others_hold = λ ran halted. absurd (halted ran);
@@ -133,7 +133,7 @@ loop-made-preserved g c =
       slots = λ all queues slots. done.slots (inv.hold all queues) (inv.slots all queues slots);
       took = λ record_of all queues took. done.took record_of (inv.hold all queues) (inv.took record_of all queues took);
       log = (inv.log.0 ++ done.log.0, done.log.1 ∙ ap (λ (l : List Carried). l ++ done.log.0) inv.log.1 ∙ append_assoc f.recorder.log inv.log.0 done.log.0);
-      writes = λ before. done.writes (inv.writes before);
+      failed = λ before. done.failed (inv.failed before);
       reads = λ before. done.reads (inv.reads before);
       stops = λ ran halted. (
         turns_made now,
@@ -212,11 +212,11 @@ returns-then-is_over-clause-log g c = c.loop-made.invariant.log
 pub returns-clause-log : goal.returns-clause-log
 returns-clause-log g c = c.loop-made.invariant.log
 
-pub returns-then-is_over-clause-writes : goal.returns-then-is_over-clause-writes
-returns-then-is_over-clause-writes g c = c.loop-made.invariant.writes
+pub returns-then-is_over-clause-failed : goal.returns-then-is_over-clause-failed
+returns-then-is_over-clause-failed g c = c.loop-made.invariant.failed
 
-pub returns-clause-writes : goal.returns-clause-writes
-returns-clause-writes g c = c.loop-made.invariant.writes
+pub returns-clause-failed : goal.returns-clause-failed
+returns-clause-failed g c = c.loop-made.invariant.failed
 
 pub returns-then-is_over-clause-reads : goal.returns-then-is_over-clause-reads
 returns-then-is_over-clause-reads g c = c.loop-made.invariant.reads

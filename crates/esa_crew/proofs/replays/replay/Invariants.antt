@@ -7,7 +7,7 @@ use Rattle.esa_spec.specs.Verdicts.{is_finished}
 use Rattle.esa_floor.specs.Keeping.{QueuesHold, QueuesHoldAfter, SlotsHold, SlotsHoldAfter, StopsAfter}
 use Rattle.esa_floor.specs.Marks.{roots_of}
 use Rattle.esa_floor.specs.Standing.{Stands, attempt_begun, turns_made}
-use Rattle.esa_floor.specs.Written.{EachTookItsBlock, ReadsGaveTheirBlocks, WritesFailed}
+use Rattle.esa_floor.specs.Written.{EachTookItsBlock, FailedByStop, ReadsGaveTheirBlocks}
 use Rattle.esa_report.specs.declared.item.Item.{Item}
 use Rattle.esa_crew.specs.Posts.{AllHold, ArePosts, OthersHoldAfter}
 use Rattle.esa_crew.proofs.replays.replay.Given as goal
@@ -28,7 +28,7 @@ invariant-loop-made g l =
       took : (record_of : ℕ → Item) → AllHold g.G.Told.draws l.initial.floor l.initial.workers → QueuesHold g.G.Told.draws l.initial.floor
           → EachTookItsBlock g.G.Told.draws record_of l.initial.floor → EachTookItsBlock g.G.Told.draws record_of l.floor;
       log : Begins l.initial.floor.recorder.log l.floor.recorder.log;
-      writes : WritesFailed l.initial.floor.stop l.initial.floor.recorder.log → WritesFailed l.floor.stop l.floor.recorder.log;
+      failed : FailedByStop l.initial.floor.stop l.initial.floor.recorder.log → FailedByStop l.floor.stop l.floor.recorder.log;
       reads : ReadsGaveTheirBlocks g.G.Told.draws l.initial.floor → ReadsGaveTheirBlocks g.G.Told.draws l.floor;
       stops : l.initial.floor.stop ≡ None → l.floor.stop ≢ None → (before : List ℕ) × StopsAfter g.V.Device.faults g.G.Told.draws before l.floor
           × (AllHold g.G.Told.draws l.initial.floor l.initial.workers → QueuesHold g.G.Told.draws l.initial.floor → SlotsHold g.G.Told.draws l.initial.floor

@@ -74,8 +74,8 @@ pub returns-clause-others_before : goal.returns-clause-others_before
 returns-clause-others_before g c = λ other stopped holds.
     c.turn.ensures.others_before other c.requires.begun c.requires.runs stopped holds.records holds.chunks
 
-pub returns-clause-writes : goal.returns-clause-writes
-returns-clause-writes g c = c.turn.ensures.writes
+pub returns-clause-failed : goal.returns-clause-failed
+returns-clause-failed g c = c.turn.ensures.failed
 
 pub returns-clause-log : goal.returns-clause-log
 returns-clause-log g c = (_, c.turn.ensures.log c.requires.begun c.requires.runs)

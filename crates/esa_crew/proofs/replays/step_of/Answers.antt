@@ -47,8 +47,8 @@ returns-clause-others_before g c = λ stopped all.
     others_hold g.G.Told.draws c.args.floor.now c.step.new.floor (turns_made c.args.floor.now) c.args.workers.now c.args.number c.step.new.worker
     (λ other. c.step.ensures.others_before other stopped) all
 
-pub returns-clause-writes : goal.returns-clause-writes
-returns-clause-writes g c = c.step.ensures.writes
+pub returns-clause-failed : goal.returns-clause-failed
+returns-clause-failed g c = c.step.ensures.failed
 
 pub returns-clause-log : goal.returns-clause-log
 returns-clause-log g c = c.step.ensures.log

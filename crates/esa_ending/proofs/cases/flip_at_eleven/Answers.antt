@@ -1,8 +1,11 @@
-use Rattle.std.proofs.Common.{[], inl, take, drop, refl}
+use Rattle.std.proofs.Common.{[], take, drop, refl}
 use Rattle.esa_params.specs.declared.slot.Op.TheVariants.{Read}
 use Rattle.esa_params.specs.declared.slot.Region.TheVariants.{Mid}
 use Rattle.esa_spec.specs.Cases.{accessed, base_trace}
 use Rattle.esa_ending.proofs.cases.flip_at_eleven.Goals as goal
+
+pub returns-clause-turns : goal.returns-clause-turns
+returns-clause-turns c = refl
 
 pub returns-clause-tampered : goal.returns-clause-tampered
 returns-clause-tampered c = record {
@@ -12,7 +15,6 @@ returns-clause-tampered c = record {
     last = (take 10 base_trace, refl);
     turns = ([], refl);
     of_stored = (drop 11 base_trace, refl);
-    none_behind = λ some. inl refl;
     history = refl;
   };
   slot = refl;

@@ -1,4 +1,4 @@
-use Rattle.esa_ending.proofs.CutLaws.{cut-behind, cut-nowhere, none-behind, shuffle-front, trace-front}
+use Rattle.esa_ending.proofs.CutLaws.{cut-behind, cut-nowhere, shuffle-front, trace-front}
 use Rattle.esa_ending.proofs.stored.cut_turns_make_a_front.Goals as goal
 
 pub returns-clause-run : goal.returns-clause-run
@@ -12,6 +12,3 @@ returns-clause-whole c = cut-nowhere
 
 pub returns-clause-attempts : goal.returns-clause-attempts
 returns-clause-attempts c = cut-behind
-
-pub returns-clause-none_behind : goal.returns-clause-none_behind
-returns-clause-none_behind c = none-behind

@@ -100,8 +100,8 @@ returns-clause-took g c = λ record_of items.
     let kept = c.distribute-held.ensures.kept in
     c.finish-end.ensures.took record_of (subst (λ (q : Sizes). AreItems (item_length q.form) record_of) (sym kept.stands.of.plan) items) kept.queues kept.slots (kept.took record_of items)
 
-pub returns-clause-writes : goal.returns-clause-writes
-returns-clause-writes g c = c.finish-end.ensures.writes c.distribute-held.ensures.kept.writes
+pub returns-clause-failed : goal.returns-clause-failed
+returns-clause-failed g c = c.finish-end.ensures.failed c.distribute-held.ensures.kept.failed
 
 pub returns-clause-reads : goal.returns-clause-reads
 returns-clause-reads g c = c.finish-end.ensures.reads c.distribute-held.ensures.kept.reads

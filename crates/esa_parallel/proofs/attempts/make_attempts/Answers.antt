@@ -20,13 +20,14 @@ use Rattle.esa_floor.specs.Standing.{turns_made}
 use Rattle.esa_floor.specs.Written.{EachGaveItsBlock, EachUntil, GaveItsOwn}
 use Rattle.esa_floor.specs.declared.floor.Roots.{Roots}
 use Rattle.esa_floor.specs.declared.turn.Outcome.{Outcome}
-use Rattle.esa_shuffle.specs.Attempts.{AttemptEnd, WritesEnd}
-use Rattle.esa_shuffle.specs.Records.{ReadsOf, WritesOf}
+use Rattle.esa_shuffle.specs.Attempts.{AttemptEnd}
+use Rattle.esa_vault.specs.Traffic.{FailedByFault}
+use Rattle.esa_shuffle.specs.Records.{FailedByOutcome, ReadsOf}
 use Rattle.esa_shuffle.specs.Runs.{MayEnd, lists_ended}
 use Rattle.esa_shuffle.proofs.Contents.{faithful_before}
 use Rattle.esa_shuffle.proofs.Giving.{cut_gave}
 use Rattle.esa_shuffle.proofs.Stopped.{good_is}
-use Rattle.esa_shuffle.proofs.Taken.{cut_short, cut_writes}
+use Rattle.esa_shuffle.proofs.Taken.{cut_short, cut_failed}
 use Rattle.esa_workers.proofs.Distributing.{first_of}
 use Rattle.esa_parallel.specs.Crews.{AllAreDone, IsDoneByAll, TookPart}
 use Rattle.esa_parallel.proofs.Between.{IsBetween, alone_now, done_all, done_cut, done_good, ends_all, ends_cut, ends_good, few_all, few_now, first_between, last, leads_on, none_before, took_part_now}
@@ -52,7 +53,7 @@ loop-attempt-init g c =
       log = ([], sym (append-nil f.recorder.log));
       input = λ record_of faithful input. input;
       took = c.requires.took;
-      writes = c.requires.writes;
+      failed = c.requires.failed;
       reads = c.requires.reads;
       origin = refl;
     }
@@ -143,8 +144,8 @@ module _ (g : Over) (c : After-make_attempt-after g) where
     done_is : IsDoneByAll p (ds a) (turns_made c.make_attempt-after.result.held.value)
     done_is = subst (λ (r : Result Verdict VaultFault). OnOk r (IsDoneByAll p (ds a) (turns_made c.make_attempt-after.result.held.value))) is c.make_attempt-after.ensures.done
 
-    writes_is : WritesEnd (Ok v) c.make_attempt-after.result.held.value.recorder.log
-    writes_is = subst (λ (r : Result Verdict VaultFault). WritesEnd r c.make_attempt-after.result.held.value.recorder.log) is c.make_attempt-after.ensures.writes
+    failed_is : FailedByFault (Ok v) c.make_attempt-after.result.held.value.recorder.log
+    failed_is = subst (λ (r : Result Verdict VaultFault). FailedByFault r c.make_attempt-after.result.held.value.recorder.log) is c.make_attempt-after.ensures.failed
 
     reads_is : EachGaveItsBlock ds c.make_attempt-after.result.held.value
     reads_is =
@@ -208,8 +209,8 @@ returns-then-is_good-clause-outputs g c = λ record_of named items faithful inpu
 pub returns-then-is_good-clause-took : goal.returns-then-is_good-clause-took
 returns-then-is_good-clause-took g c = c.make_attempt-after.ensures.took
 
-pub returns-then-is_good-clause-writes : goal.returns-then-is_good-clause-writes
-returns-then-is_good-clause-writes g c = writes_is g (goal.at.returns-then-is_good-clause-writes g c).After-make_attempt-after c.in-Ok.verdict c.in-Ok.is
+pub returns-then-is_good-clause-failed : goal.returns-then-is_good-clause-failed
+returns-then-is_good-clause-failed g c = failed_is g (goal.at.returns-then-is_good-clause-failed g c).After-make_attempt-after c.in-Ok.verdict c.in-Ok.is
 
 pub returns-then-is_good-clause-reads : goal.returns-then-is_good-clause-reads
 returns-then-is_good-clause-reads g c = reads_is g (goal.at.returns-then-is_good-clause-reads g c).After-make_attempt-after c.in-Ok.verdict c.in-Ok.is
@@ -261,11 +262,11 @@ returns-in-Err-clause-outputs g c = λ record_of named items faithful input call
 pub returns-in-Err-clause-took : goal.returns-in-Err-clause-took
 returns-in-Err-clause-took g c = c.make_attempt-after.ensures.took
 
-pub returns-in-Err-clause-writes : goal.returns-in-Err-clause-writes
-returns-in-Err-clause-writes g c =
+pub returns-in-Err-clause-failed : goal.returns-in-Err-clause-failed
+returns-in-Err-clause-failed g c =
     let log = c.make_attempt-after.result.held.value.recorder.log in
-    subst (λ (o : Outcome). WritesOf o log) (sym c.outcome_by.ensures)
-    (cut_writes c.in-Err.fault log (subst (λ (r : Result Verdict VaultFault). WritesEnd r log) c.in-Err.is c.make_attempt-after.ensures.writes))
+    subst (λ (o : Outcome). FailedByOutcome o log) (sym c.outcome_by.ensures)
+    (cut_failed c.in-Err.fault log (subst (λ (r : Result Verdict VaultFault). FailedByFault r log) c.in-Err.is c.make_attempt-after.ensures.failed))
 
 pub returns-in-Err-clause-reads : goal.returns-in-Err-clause-reads
 returns-in-Err-clause-reads g c =
@@ -300,7 +301,7 @@ loop-attempt-preserved g c =
       log = log_on g at;
       input = input_on g at;
       took = done.took;
-      writes = writes_is g at v c.in-Ok.is;
+      failed = failed_is g at v c.in-Ok.is;
       reads = reads_is g at v c.in-Ok.is;
       origin = origin_on g at;
     }

@@ -1,10 +1,10 @@
 -- The attempts before this one have failed, and the posts rest.
 use Rattle.std.proofs.Common.{◌≡◌, ℕ, ◌+◌, ◌-◌, ◌<◌, ◌≤◌, [], length}
 use Rattle.std.specs.Prelude.{slice_index_or}
-use Rattle.esa_device.specs.Logs.{IsFaithful}
+use Rattle.esa_device.specs.Logs.{IsFaithful, NoneFailed}
 use Rattle.esa_floor.specs.Keeping.{HasInput}
 use Rattle.esa_floor.specs.Marks.{roots_of}
-use Rattle.esa_floor.specs.Written.{AreItems, EachGaveItsBlock, EachTookItsBlock, NoWriteFailed}
+use Rattle.esa_floor.specs.Written.{AreItems, EachGaveItsBlock, EachTookItsBlock}
 use Rattle.esa_params.specs.Slots.{item_length}
 use Rattle.esa_report.specs.declared.item.Item.{Item}
 use Rattle.esa_spec.specs.Fronts.{Begins}
@@ -28,7 +28,7 @@ invariant-loop-attempt g l = record {
   log : Begins l.fn.held.value.recorder.log l.held.value.recorder.log;
   input : (record_of : ℕ → Item) → IsFaithful g.G.Told.plan l.held.value.recorder.log → HasInput l.fn.held.value record_of → HasInput l.held.value record_of;
   took : (record_of : ℕ → Item) → AreItems (item_length g.G.Told.plan.form) record_of → EachTookItsBlock g.G.Told.draws record_of l.held.value;
-  writes : NoWriteFailed l.held.value.recorder.log;
+  failed : NoneFailed l.held.value.recorder.log;
   reads : EachGaveItsBlock g.G.Told.draws l.held.value;
   origin : roots_of l.held.value ≡ roots_of l.fn.held.value;
 }

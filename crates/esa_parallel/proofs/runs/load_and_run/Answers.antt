@@ -41,8 +41,8 @@ pub make_attempts-over-requires-clause-took : goal.make_attempts-over-requires-c
 make_attempts-over-requires-clause-took g c = λ lives outlive record_of items. took-input g.G.Told.draws record_of c.load.new.floor
     (input_written c.load.new.floor.plan c.load.new.floor.recorder.log (c.load.ensures.input c.requires.log))
 
-pub make_attempts-over-requires-clause-writes : goal.make_attempts-over-requires-clause-writes
-make_attempts-over-requires-clause-writes g c = λ lives outlive. c.in-Ok.ensures.writes c.requires.log
+pub make_attempts-over-requires-clause-failed : goal.make_attempts-over-requires-clause-failed
+make_attempts-over-requires-clause-failed g c = λ lives outlive. c.in-Ok.ensures.failed c.requires.log
 
 pub make_attempts-over-requires-clause-reads : goal.make_attempts-over-requires-clause-reads
 make_attempts-over-requires-clause-reads g c = λ lives outlive. gave-input g.G.Told.draws c.load.new.floor (c.load.ensures.input c.requires.log)
@@ -102,7 +102,7 @@ returns-in-Ok-clause-given g c =
       became = shuffled_from p ds (lists_ended p last) f.outer f.run c.load.new.floor last o has.given (ap (λ (x : Parts _). x.plan) c.load.ensures.floor ∙ c.requires.new.stands.of.plan)
           (ap (λ (x : Parts _). x.outer) c.load.ensures.floor) (ap (λ (x : Parts _). x.run) c.load.ensures.floor) done.origin
           (has.load.bytes ∙ ap (λ (n : ℕ). envelope_length p.form * first p n) (has.load.whole refl)) done.log has.became.input
-          done.outputs done.input (λ record_of items before. done.took record_of items) (c.load.ensures.input c.requires.log) done.writes (λ before. done.reads)
+          done.outputs done.input (λ record_of items before. done.took record_of items) (c.load.ensures.input c.requires.log) done.failed (λ before. done.reads)
           (written_from p ds (lists_ended p last) f.outer f.run c.load.new.floor last o has.given (ap (λ (x : Parts _). x.plan) c.load.ensures.floor ∙ c.requires.new.stands.of.plan)
           (ap (λ (x : Parts _). x.outer) c.load.ensures.floor) (ap (λ (x : Parts _). x.run) c.load.ensures.floor) done.origin
           (has.load.bytes ∙ ap (λ (n : ℕ). envelope_length p.form * first p n) (has.load.whole refl)) done.log has.became.input
@@ -183,7 +183,7 @@ returns-in-Err-clause-given g c =
       load = given_where p told part before after (false ≡ true) (h ≢ []) has.given (λ some. absurd (some gone)) has.load;
       became = not_shuffled p g.G.Told.draws (lists_ended p (behind (length f.history) loaded)) f.outer f.run (h ++ p.workers ∷ []) log c.in-Err.outcome has.given c.in-Err.ensures.ends.2
           (subst (λ (q : Sizes). All (WritesInput q) log) (ap (λ (x : Parts _). x.plan) c.load.ensures.floor ∙ c.requires.new.stands.of.plan) (c.load.ensures.input c.requires.log))
-          (c.in-Err.ensures.writes c.requires.log)
+          (c.in-Err.ensures.failed c.requires.log)
           (written_by loaded.plan p loaded.run f.run has.given log (ap (λ (x : Parts _). x.plan) c.load.ensures.floor ∙ c.requires.new.stands.of.plan)
           (ap (λ (x : Parts _). x.run) c.load.ensures.floor) (has.became.written c.requires.log));
     }

@@ -12,7 +12,7 @@ use Rattle.esa_crew.specs.Posts.{ArePosts}
 use Rattle.esa_floor.specs.Keeping.{HasInput, QueuesHold, SlotsHold}
 use Rattle.esa_floor.specs.Parts.{Parts, begun_as}
 use Rattle.esa_floor.specs.Standing.{attempt_begun, turns_made}
-use Rattle.esa_floor.specs.Written.{AreItems, EachGaveItsBlock, EachTookItsBlock, GaveItsOwn, ReadsGave, ReadsGaveTheirBlocks, WritesFailed}
+use Rattle.esa_floor.specs.Written.{AreItems, EachGaveItsBlock, EachTookItsBlock, FailedByStop, GaveItsOwn, ReadsGave, ReadsGaveTheirBlocks}
 use Rattle.esa_floor.specs.declared.floor.Roots.{Roots}
 use Rattle.esa_floor.specs.declared.turn.Stop.{Stop}
 use Rattle.esa_press.specs.Contents.{AreOutputsStored}
@@ -48,6 +48,7 @@ returns-clause-behind g c =
     (subst (λ (x : Parts _). EndsByStop x.stop c.finish.result) c.keep_log-2.ensures.same c.finish.ensures.stopped)
     (λ there. ap (λ (x : Parts _). x.recorder) (c.finish.ensures.still (λ none. there (sym (ap (λ (x : Parts _). x.stop) c.keep_log-2.ensures.same) ∙ none)) ∙ c.keep_log-2.ensures.same))
     (λ there. let at = c.replay.ensures.stops there in (at.0, at.1))
+    (λ runs. c.finish.ensures.behind (ap (λ (x : Parts _). x.stop) c.keep_log-2.ensures.same ∙ runs))
 
 pub returns-clause-members : goal.returns-clause-members
 returns-clause-members g c =
@@ -116,11 +117,11 @@ returns-clause-took g c = λ record_of items took.
     (subst (λ (x : Parts _). SlotsHold ds x) (sym c.keep_log-2.ensures.same) (c.replay.ensures.slots c.begin.ensures.hold c.begin.ensures.queues c.begin.ensures.slots))
     (subst (λ (x : Parts _). EachTookItsBlock ds record_of x) (sym c.keep_log-2.ensures.same) (c.replay.ensures.took record_of c.begin.ensures.hold c.begin.ensures.queues begun))
 
-pub returns-clause-writes : goal.returns-clause-writes
-returns-clause-writes g c = λ none.
+pub returns-clause-failed : goal.returns-clause-failed
+returns-clause-failed g c = λ none.
     let is = c.begin.ensures.begun ∙ ap (λ (x : Parts _). begun_as x c.args.attempt) c.keep_log.ensures.same in
-    c.finish.ensures.writes (subst (λ (x : Parts _). WritesFailed x.stop x.recorder.log) (sym c.keep_log-2.ensures.same)
-    (c.replay.ensures.writes (subst (λ (x : Parts _). WritesFailed x.stop x.recorder.log) (sym is) none)))
+    c.finish.ensures.failed (subst (λ (x : Parts _). FailedByStop x.stop x.recorder.log) (sym c.keep_log-2.ensures.same)
+    (c.replay.ensures.failed (subst (λ (x : Parts _). FailedByStop x.stop x.recorder.log) (sym is) none)))
 
 pub returns-clause-reads : goal.returns-clause-reads
 returns-clause-reads g c = λ gave.

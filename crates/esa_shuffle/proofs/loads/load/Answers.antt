@@ -1,13 +1,14 @@
 -- The load ends the run, or the first attempt may begin.
 use Rattle.std.proofs.Common.{◌+◌, ◌++◌, ◌∷◌, [], All, Ok, Err, sym, subst, arith}
+use Rattle.esa_device.specs.Logs.{NoneFailed, OnlyLastFailed}
 use Rattle.esa_floor.specs.declared.turn.Outcome.TheVariants as outcome
-use Rattle.esa_floor.specs.Written.{NoWriteFailed, OnlyLastFailed, WritesInput}
+use Rattle.esa_floor.specs.Written.{WritesInput}
 use Rattle.esa_load.specs.Loads.{LoadEnd, Source, failed_block, written_blocks}
 use Rattle.esa_load.specs.declared.fault.LoadFault.{LoadFault}
 use Rattle.esa_load.specs.declared.fault.LoadFault.TheVariants.{Batch, Device}
 use Rattle.esa_shuffle.proofs.Inputs.{written_badly, written_well}
 use Rattle.esa_shuffle.proofs.Loaded.{all_given, batch_ends, device_ends, is_loaded, log_is, moved, some_given}
-use Rattle.esa_shuffle.proofs.Taken.{failed_input, failed_writes, loaded_input, loaded_writes}
+use Rattle.esa_shuffle.proofs.Taken.{failed_input, failed_load, loaded_input, loaded_failed}
 use Rattle.esa_shuffle.proofs.loads.load.Goals as goal
 
 pub returns-in-Ok-clause-ends : goal.returns-in-Ok-clause-ends
@@ -126,8 +127,8 @@ returns-in-Ok-clause-input g c = λ empty.
     let is = log_is faults g.G.Told.plan g.G.Told.draws f c.requires.new r told part given before after f.plan.b (written_blocks f.plan f.run given f.plan.b) end.0 empty in
     subst (All (WritesInput f.plan)) (sym is) (loaded_input f.plan f.run given f.plan.b (omega arith))
 
-pub returns-in-Ok-clause-writes : goal.returns-in-Ok-clause-writes
-returns-in-Ok-clause-writes g c = λ empty.
+pub returns-in-Ok-clause-failed : goal.returns-in-Ok-clause-failed
+returns-in-Ok-clause-failed g c = λ empty.
     let faults = g.V.Device.faults in
     let f = c.args.floor.now in
     let r = c.load.new.recorder in
@@ -139,7 +140,7 @@ returns-in-Ok-clause-writes g c = λ empty.
     let end = moved faults g.G.Told.plan g.G.Told.draws f c.requires.new r told part given before after c.args.loader.now.plan c.args.loader.now.run c.recorder.result.now (Ok c.in-Ok.field-0) c.requires.plan c.requires.run
     c.recorder.ensures.value c.in-Ok.ensures.end.1 in
     let is = log_is faults g.G.Told.plan g.G.Told.draws f c.requires.new r told part given before after f.plan.b (written_blocks f.plan f.run given f.plan.b) end.0 empty in
-    subst NoWriteFailed (sym is) (loaded_writes f.plan f.run given f.plan.b)
+    subst NoneFailed (sym is) (loaded_failed f.plan f.run given f.plan.b)
 
 pub returns-in-Err-Batch-clause-input : goal.returns-in-Err-Batch-clause-input
 returns-in-Err-Batch-clause-input g c = λ empty.
@@ -161,8 +162,8 @@ returns-in-Err-Batch-clause-input g c = λ empty.
     let is = log_is faults g.G.Told.plan g.G.Told.draws f c.requires.new r told part given before after j (written_blocks f.plan f.run given j) end.1 empty in
     subst (All (WritesInput f.plan)) (sym is) (loaded_input f.plan f.run given j (omega (arith, inside)))
 
-pub returns-in-Err-Batch-clause-writes : goal.returns-in-Err-Batch-clause-writes
-returns-in-Err-Batch-clause-writes g c = λ empty.
+pub returns-in-Err-Batch-clause-failed : goal.returns-in-Err-Batch-clause-failed
+returns-in-Err-Batch-clause-failed g c = λ empty.
     let faults = g.V.Device.faults in
     let f = c.args.floor.now in
     let r = c.load.new.recorder in
@@ -179,7 +180,7 @@ returns-in-Err-Batch-clause-writes g c = λ empty.
     c.in-Err-Batch.ensures.end.1) in
     let inside = end.0 in
     let is = log_is faults g.G.Told.plan g.G.Told.draws f c.requires.new r told part given before after j (written_blocks f.plan f.run given j) end.1 empty in
-    subst NoWriteFailed (sym is) (loaded_writes f.plan f.run given j)
+    subst NoneFailed (sym is) (loaded_failed f.plan f.run given j)
 
 pub returns-in-Err-Device-clause-input : goal.returns-in-Err-Device-clause-input
 returns-in-Err-Device-clause-input g c = λ empty.
@@ -200,8 +201,8 @@ returns-in-Err-Device-clause-input g c = λ empty.
     let is = log_is faults g.G.Told.plan g.G.Told.draws f c.requires.new r told part given before after (j + 1) (written_blocks f.plan f.run given j ++ failed_block f.plan j ∷ []) end.3 empty in
     subst (All (WritesInput f.plan)) (sym is) (failed_input f.plan f.run given j end.1)
 
-pub returns-in-Err-Device-clause-writes : goal.returns-in-Err-Device-clause-writes
-returns-in-Err-Device-clause-writes g c = λ empty.
+pub returns-in-Err-Device-clause-failed : goal.returns-in-Err-Device-clause-failed
+returns-in-Err-Device-clause-failed g c = λ empty.
     let faults = g.V.Device.faults in
     let f = c.args.floor.now in
     let r = c.load.new.recorder in
@@ -217,4 +218,4 @@ returns-in-Err-Device-clause-writes g c = λ empty.
     c.in-Err-Device.ensures.end.1) in
     let j = end.0 in
     let is = log_is faults g.G.Told.plan g.G.Told.draws f c.requires.new r told part given before after (j + 1) (written_blocks f.plan f.run given j ++ failed_block f.plan j ∷ []) end.3 empty in
-    subst OnlyLastFailed (sym is) (failed_writes f.plan f.run given j)
+    subst OnlyLastFailed (sym is) (failed_load f.plan f.run given j)

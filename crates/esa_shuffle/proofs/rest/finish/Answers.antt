@@ -1,7 +1,8 @@
 -- A turn that failed ends the attempt.
-use Rattle.std.proofs.Common.{Option, Some, Ok, Err, refl, sym, ap, ◌∙◌, subst}
+use Rattle.std.proofs.Common.{◌≡◌, Option, Some, None, Ok, Err, refl, sym, ap, ◌∙◌, subst}
 use Rattle.esa_floor.specs.Written.{GaveItsOwn, ReadsGave}
 use Rattle.esa_floor.specs.declared.turn.Stop.{Stop}
+use Rattle.esa_floor.specs.declared.turn.Stop.TheVariants as stop
 use Rattle.esa_spec.specs.declared.event.Verdict.TheVariants as verdicts
 use Rattle.esa_vault.specs.declared.fault.VaultFault.TheVariants as fault
 use Rattle.esa_shuffle.specs.Attempts.{EndsByStop}
@@ -64,3 +65,19 @@ returns-in-Some-Tampered-clause-reads g c = λ gave.
     let f = c.args.floor.now in
     subst (λ (s : Option Stop). ReadsGave (GaveItsOwn g.G.Told.draws f) s f.recorder.log)
     (sym c.stop.ensures ∙ c.in-Some-Tampered.is ∙ ap Some c.in-Some-Tampered.field-0-is) gave
+
+pub returns-in-None-clause-behind : goal.returns-in-None-clause-behind
+returns-in-None-clause-behind g c = λ runs. c.press_on.ensures.behind
+
+pub returns-in-Some-StashOverflow-clause-behind : goal.returns-in-Some-StashOverflow-clause-behind
+returns-in-Some-StashOverflow-clause-behind g c = λ runs. tt
+
+pub returns-in-Some-DeviceFault-clause-behind : goal.returns-in-Some-DeviceFault-clause-behind
+returns-in-Some-DeviceFault-clause-behind g c = λ runs.
+    let clash : Some (stop.DeviceFault c.in-Some-DeviceFault.number) ≡ None = sym (sym c.stop.ensures ∙ c.in-Some-DeviceFault.is ∙ ap Some c.in-Some-DeviceFault.field-0-is) ∙ runs in
+    absurd (cc clash)
+
+pub returns-in-Some-Tampered-clause-behind : goal.returns-in-Some-Tampered-clause-behind
+returns-in-Some-Tampered-clause-behind g c = λ runs.
+    let clash : Some (stop.Tampered c.in-Some-Tampered.number) ≡ None = sym (sym c.stop.ensures ∙ c.in-Some-Tampered.is ∙ ap Some c.in-Some-Tampered.field-0-is) ∙ runs in
+    absurd (cc clash)

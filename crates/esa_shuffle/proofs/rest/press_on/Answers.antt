@@ -6,12 +6,15 @@ use Rattle.esa_floor.specs.Parts.{Parts}
 use Rattle.esa_floor.specs.Standing.{turns_made}
 use Rattle.esa_floor.specs.Written.{EachUntil, GaveItsOwn}
 use Rattle.esa_spec.specs.Turns.{order}
+use Rattle.esa_spec.specs.Verdicts.{steps}
 use Rattle.esa_ending.proofs.FrontLaws.{onward}
-use Rattle.esa_shuffle.specs.Attempts.{AttemptEnd, WritesEnd}
+use Rattle.esa_shuffle.specs.Attempts.{AttemptEnd, EndsBehind}
+use Rattle.esa_vault.specs.Traffic.{FailedByFault}
 use Rattle.esa_press.proofs.Finishing.{chunks_are, queues_are, room_is, turns_are, turns_behind}
+use Rattle.esa_shuffle.proofs.Behind.{drained_behind, pressed_behind}
 use Rattle.esa_shuffle.proofs.Contents.{drain_bad, drained_log, faithful_before, outputs_on, press_bad, pressed_log}
 use Rattle.esa_shuffle.proofs.Giving.{rest_gave}
-use Rattle.esa_shuffle.proofs.Taken.{rest_writes, took_drained, took_pressed}
+use Rattle.esa_shuffle.proofs.Taken.{rest_failed, took_drained, took_pressed}
 use Rattle.esa_shuffle.proofs.Stopped.{drain_ends, press_done, press_ends}
 use Rattle.esa_shuffle.proofs.rest.press_on.Goals as goal
 
@@ -118,17 +121,17 @@ returns-in-Err-compress-clause-took g c = λ record_of items queues slots.
     (c.in_default.ensures.tails record_of) (c.in_default.ensures.chunks record_of) (c.in_default.ensures.took record_of)
     c.compress.new.floor c.compress.ensures.floor c.compress.ensures.log (c.compress.ensures.took record_of)
 
-pub returns-in-Err-clause-writes : goal.returns-in-Err-clause-writes
-returns-in-Err-clause-writes g c = λ none.
-    subst (λ result. WritesEnd result c.drain.new.floor.recorder.log) (sym c.end_by.ensures) (rest_writes c.in-Err.halt c.drain.new.floor.recorder.log (c.in-Err.ensures.writes none))
+pub returns-in-Err-clause-failed : goal.returns-in-Err-clause-failed
+returns-in-Err-clause-failed g c = λ none.
+    subst (λ result. FailedByFault result c.drain.new.floor.recorder.log) (sym c.end_by.ensures) (rest_failed c.in-Err.halt c.drain.new.floor.recorder.log (c.in-Err.ensures.failed none))
 
-pub returns-in-Ok-clause-writes : goal.returns-in-Ok-clause-writes
-returns-in-Ok-clause-writes g c = λ none. c.in-Ok.ensures.writes (c.in_default.ensures.writes none)
+pub returns-in-Ok-clause-failed : goal.returns-in-Ok-clause-failed
+returns-in-Ok-clause-failed g c = λ none. c.in-Ok.ensures.failed (c.in_default.ensures.failed none)
 
-pub returns-in-Err-compress-clause-writes : goal.returns-in-Err-compress-clause-writes
-returns-in-Err-compress-clause-writes g c = λ none.
-    subst (λ result. WritesEnd result c.compress.new.floor.recorder.log) (sym c.end_by-in-Err-compress.ensures)
-    (rest_writes c.in-Err-compress.halt c.compress.new.floor.recorder.log (c.in-Err-compress.ensures.writes (c.in_default.ensures.writes none)))
+pub returns-in-Err-compress-clause-failed : goal.returns-in-Err-compress-clause-failed
+returns-in-Err-compress-clause-failed g c = λ none.
+    subst (λ result. FailedByFault result c.compress.new.floor.recorder.log) (sym c.end_by-in-Err-compress.ensures)
+    (rest_failed c.in-Err-compress.halt c.compress.new.floor.recorder.log (c.in-Err-compress.ensures.failed (c.in_default.ensures.failed none)))
 
 pub returns-in-Err-clause-reads : goal.returns-in-Err-clause-reads
 returns-in-Err-clause-reads g c = λ gave.
@@ -157,3 +160,15 @@ returns-in-Err-compress-clause-reads g c = λ gave.
     (c.in-Err-compress.ensures.reads
     (turns_behind g.V.Device.faults g.G.Told.plan g.G.Told.draws f a c.requires.distributed c.drain.new.floor (Ok c.in_default.field-0) c.in_default.ensures.ends)
     (c.in_default.ensures.reads (turns_are g.V.Device.faults g.G.Told.plan g.G.Told.draws f a c.requires.distributed) gave)))
+
+pub returns-in-Err-clause-behind : goal.returns-in-Err-clause-behind
+returns-in-Err-clause-behind g c =
+    subst (EndsBehind c.args.attempt c.drain.new.floor.recorder.trace) (sym c.end_by.ensures)
+    (drained_behind g.V.Device.faults (g.G.Told.draws c.args.attempt) (order c.args.floor.now.plan.b (turns_made c.args.floor.now)) c.args.attempt c.args.floor.now c.drain.new.floor c.in-Err.halt c.in-Err.ensures.ends)
+
+pub returns-in-Err-compress-clause-behind : goal.returns-in-Err-compress-clause-behind
+returns-in-Err-compress-clause-behind g c =
+    let x = c.drain.new.floor in
+    subst (EndsBehind c.args.attempt c.compress.new.floor.recorder.trace) (sym c.end_by-in-Err-compress.ensures)
+    (pressed_behind g.V.Device.faults x.plan x.run (g.G.Told.draws c.args.attempt) (order x.plan.b (turns_made x)) c.args.attempt (steps x.plan) x.recorder c.compress.new.floor.recorder
+    c.in-Err-compress.halt c.in-Err-compress.ensures.made)

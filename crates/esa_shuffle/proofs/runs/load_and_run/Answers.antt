@@ -8,6 +8,7 @@ use Rattle.esa_spec.specs.Histories.{begun}
 use Rattle.esa_model.specs.Forecast.{made}
 use Rattle.esa_shuffle.specs.Loading.{HasGiven, TakesBatch}
 use Rattle.esa_shuffle.specs.Runs.{MayEnd}
+use Rattle.esa_shuffle.proofs.Behind.{load_cut}
 use Rattle.esa_shuffle.proofs.Ending.{may_front}
 use Rattle.esa_shuffle.proofs.Inputs.{written_by}
 use Rattle.esa_shuffle.proofs.Loaded.{given_where}
@@ -39,7 +40,7 @@ returns-in-Ok-clause-given g c =
       became = shuffled_from p ds hs f.outer f.run c.load.new.floor last o has.given (ap (λ (x : Parts _). x.plan) c.load.ensures.floor ∙ c.requires.new.stands.of.plan)
           (ap (λ (x : Parts _). x.outer) c.load.ensures.floor) (ap (λ (x : Parts _). x.run) c.load.ensures.floor) c.make_attempts-outcome.ensures.origin
           (has.load.bytes ∙ ap (λ (n : ℕ). envelope_length p.form * first p n) (has.load.whole refl)) c.make_attempts-outcome.ensures.log has.became.input
-          c.make_attempts-outcome.ensures.outputs c.make_attempts-outcome.ensures.input c.make_attempts-outcome.ensures.took (c.load.ensures.input c.requires.log) (c.make_attempts-outcome.ensures.writes (c.in-Ok.ensures.writes c.requires.log))
+          c.make_attempts-outcome.ensures.outputs c.make_attempts-outcome.ensures.input c.make_attempts-outcome.ensures.took (c.load.ensures.input c.requires.log) (c.make_attempts-outcome.ensures.failed (c.in-Ok.ensures.failed c.requires.log))
           c.make_attempts-outcome.ensures.reads
           (written_from p ds hs f.outer f.run c.load.new.floor last o has.given (ap (λ (x : Parts _). x.plan) c.load.ensures.floor ∙ c.requires.new.stands.of.plan)
           (ap (λ (x : Parts _). x.outer) c.load.ensures.floor) (ap (λ (x : Parts _). x.run) c.load.ensures.floor) c.make_attempts-outcome.ensures.origin
@@ -63,7 +64,7 @@ returns-in-Err-clause-given g c =
       load = given_where p told part before after (false ≡ true) (c.load.new.floor.history ≢ []) has.given
           (λ some. absurd (some (ap (λ (x : Parts _). x.history) c.load.ensures.floor ∙ c.requires.new.history))) has.load;
       became = not_shuffled p ds (made p ds c.args.turns.now) f.outer f.run (c.load.new.floor.history ++ p.workers ∷ []) c.load.new.floor.recorder.log c.in-Err.outcome has.given c.in-Err.ensures.ends.2
-          (subst (λ (q : Sizes). All (WritesInput q) c.load.new.floor.recorder.log) (ap (λ (x : Parts _). x.plan) c.load.ensures.floor ∙ c.requires.new.stands.of.plan) (c.load.ensures.input c.requires.log)) (c.in-Err.ensures.writes c.requires.log)
+          (subst (λ (q : Sizes). All (WritesInput q) c.load.new.floor.recorder.log) (ap (λ (x : Parts _). x.plan) c.load.ensures.floor ∙ c.requires.new.stands.of.plan) (c.load.ensures.input c.requires.log)) (c.in-Err.ensures.failed c.requires.log)
           (written_by c.load.new.floor.plan p c.load.new.floor.run f.run has.given c.load.new.floor.recorder.log (ap (λ (x : Parts _). x.plan) c.load.ensures.floor ∙ c.requires.new.stands.of.plan)
           (ap (λ (x : Parts _). x.run) c.load.ensures.floor) (has.became.written c.requires.log));
     }
@@ -80,3 +81,11 @@ load-requires-clause-new g c =
       trace = new.trace;
       calm = new.calm;
     }
+
+pub returns-in-Ok-clause-cut : goal.returns-in-Ok-clause-cut
+returns-in-Ok-clause-cut g c = c.make_attempts-outcome.ensures.cut
+
+pub returns-in-Err-clause-cut : goal.returns-in-Err-clause-cut
+returns-in-Err-clause-cut g c =
+    load_cut g.V.Device.faults g.G.Told.plan g.G.Told.draws (made g.G.Told.plan g.G.Told.draws c.args.turns.now) (g.R.Records.faults c.args.batch.now) (g.R.Records.faults c.load.new.batch) c.load.new.floor
+    (ap (λ (x : Parts _). x.history) c.load.ensures.floor ∙ c.requires.new.history) c.in-Err.outcome c.in-Err.ensures.ends

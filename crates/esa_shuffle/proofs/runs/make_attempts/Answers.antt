@@ -13,8 +13,8 @@ use Rattle.esa_floor.specs.declared.turn.Outcome.{Outcome}
 use Rattle.esa_model.specs.Forecast.{handed_in, made, made_in}
 use Rattle.esa_floor.specs.Parts.{Parts}
 use Rattle.esa_shuffle.specs.Attempts.{AddsAttempt, StopsShort}
-use Rattle.esa_shuffle.specs.Runs.{MayEnd, entries_before}
-use Rattle.esa_shuffle.proofs.Running.{IsBefore, ends_cut, ends_good, leads_on, room_for}
+use Rattle.esa_shuffle.specs.Runs.{EndWithCut, MayEnd, entries_before, lists_ended}
+use Rattle.esa_shuffle.proofs.Running.{IsBefore, cut_ends, ends_cut, ends_good, leads_on, room_for}
 use Rattle.esa_shuffle.proofs.Taking.{All-full, workers_at}
 use Rattle.std.proofs.Common.{[]}
 use Rattle.std.proofs.lemmas.List.FromFn.{get_or-map-range_with_len}
@@ -28,8 +28,8 @@ use Rattle.esa_press.specs.Contents.{AreOutputsStored}
 use Rattle.esa_shuffle.proofs.Contents.{faithful_before}
 use Rattle.esa_shuffle.proofs.Stopped.{good_is}
 use Rattle.esa_shuffle.proofs.Giving.{cut_gave}
-use Rattle.esa_shuffle.proofs.Taken.{cut_short, cut_writes}
-use Rattle.esa_shuffle.specs.Records.{ReadsOf, WritesOf}
+use Rattle.esa_shuffle.proofs.Taken.{cut_short, cut_failed}
+use Rattle.esa_shuffle.specs.Records.{FailedByOutcome, ReadsOf}
 use Rattle.esa_shuffle.proofs.runs.make_attempts.Goals as goal
 
 -- the turns that an attempt adds are those of its list, completed
@@ -96,8 +96,23 @@ returns-in-Err-clause-ends g c =
     (ends_cut g.V.Device.faults p ds turns a f c.make_attempt.new.floor c.loop-attempt.failures inv.before inside (ap (λ (r : Roots). r.plan) c.make_attempt.ensures.origin ∙ inv.before.plan)
     (All-full p (ds a) (handed_in turns a) (workers_at p.workers turns a c.requires.numbers)) c.in-Err.fault
     (added_in p f.plan ds turns a c.list.result.now f.history c.make_attempt.new.floor.history (Err c.in-Err.fault) inv.before.plan c.list.ensures.value c.in-Err.ensures.history)
-    (short_in p f.plan ds turns a c.list.result.now c.make_attempt.new.floor (Err c.in-Err.fault) inv.before.plan c.list.ensures.value c.in-Err.ensures.behind)
     c.in-Err.ensures.ends)
+
+pub returns-in-Err-clause-cut : goal.returns-in-Err-clause-cut
+returns-in-Err-clause-cut g c =
+    let p = g.G.Told.plan in
+    let ds = g.G.Told.draws in
+    let f = c.loop-attempt.floor in
+    let last = c.make_attempt.new.floor in
+    let inv = c.loop-attempt.invariant in
+    let a = c.loop-attempt.attempt in
+    let turns = c.args.turns.now in
+    let inside : a < p.attempts = omega (arith, c.loop-attempt-test.true, c.attempts-attempt-end.ensures.value, ap (λ (q : Sizes). q.attempts) (c.plan.ensures ∙ c.requires.next.of.plan)) in
+    subst (EndWithCut p (lists_ended p last) (made p ds turns) last.recorder.trace) (sym c.outcome_by.ensures)
+    (cut_ends g.V.Device.faults p ds turns a f last c.loop-attempt.failures inv.before inside (ap (λ (r : Roots). r.plan) c.make_attempt.ensures.origin ∙ inv.before.plan)
+    (All-full p (ds a) (handed_in turns a) (workers_at p.workers turns a c.requires.numbers)) c.in-Err.fault
+    (added_in p f.plan ds turns a c.list.result.now f.history last.history (Err c.in-Err.fault) inv.before.plan c.list.ensures.value c.in-Err.ensures.history)
+    (short_in p f.plan ds turns a c.list.result.now last (Err c.in-Err.fault) inv.before.plan c.list.ensures.value c.in-Err.ensures.behind))
 
 pub loop-attempt-preserved : goal.loop-attempt-preserved
 loop-attempt-preserved g c =
@@ -125,7 +140,7 @@ loop-attempt-preserved g c =
           done.input record_of (subst (λ (q : Sizes). IsFaithful q c.make_attempt.new.floor.recorder.log) (sym inv.before.plan) faithful)
           (inv.input record_of (faithful_before p f.recorder.log c.make_attempt.new.floor.recorder.log done.log faithful) input);
       took = λ record_of items took. done.took record_of (subst (λ (q : Sizes). AreItems (item_length q.form) record_of) (sym inv.before.plan) items) (inv.took record_of items took);
-      writes = λ none. c.in-Ok.ensures.writes (inv.writes none);
+      failed = λ none. c.in-Ok.ensures.failed (inv.failed none);
       reads = λ gave. c.in-Ok.ensures.reads (inv.reads gave);
       origin = done.origin ∙ inv.origin;
     }
@@ -187,10 +202,10 @@ returns-in-Err-clause-took g c = λ record_of items took.
     let inv = c.loop-attempt.invariant in
     c.make_attempt.ensures.took record_of (subst (λ (q : Sizes). AreItems (item_length q.form) record_of) (sym inv.before.plan) items) (inv.took record_of items took)
 
-pub returns-in-Err-clause-writes : goal.returns-in-Err-clause-writes
-returns-in-Err-clause-writes g c = λ none.
-    subst (λ (o : Outcome). WritesOf o c.make_attempt.new.floor.recorder.log) (sym c.outcome_by.ensures)
-    (cut_writes c.in-Err.fault c.make_attempt.new.floor.recorder.log (c.in-Err.ensures.writes (c.loop-attempt.invariant.writes none)))
+pub returns-in-Err-clause-failed : goal.returns-in-Err-clause-failed
+returns-in-Err-clause-failed g c = λ none.
+    subst (λ (o : Outcome). FailedByOutcome o c.make_attempt.new.floor.recorder.log) (sym c.outcome_by.ensures)
+    (cut_failed c.in-Err.fault c.make_attempt.new.floor.recorder.log (c.in-Err.ensures.failed (c.loop-attempt.invariant.failed none)))
 
 pub returns-then-is_good-clause-reads : goal.returns-then-is_good-clause-reads
 returns-then-is_good-clause-reads g c = λ gave. c.in-Ok.ensures.reads (c.loop-attempt.invariant.reads gave)
@@ -204,5 +219,5 @@ returns-in-Err-clause-reads g c = λ gave.
 pub returns-clause-reads : goal.returns-clause-reads
 returns-clause-reads g c = c.loop-attempt.invariant.reads
 
-pub returns-then-is_good-clause-writes : goal.returns-then-is_good-clause-writes
-returns-then-is_good-clause-writes g c = λ none. c.in-Ok.ensures.writes (c.loop-attempt.invariant.writes none)
+pub returns-then-is_good-clause-failed : goal.returns-then-is_good-clause-failed
+returns-then-is_good-clause-failed g c = λ none. c.in-Ok.ensures.failed (c.loop-attempt.invariant.failed none)

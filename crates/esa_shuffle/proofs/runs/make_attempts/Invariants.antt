@@ -1,8 +1,8 @@
 -- The attempts before this one have failed, and the crew stands ready.
 use Rattle.std.proofs.Common.{◌≡◌, ℕ, ◌<◌, length}
-use Rattle.esa_device.specs.Logs.{IsFaithful}
+use Rattle.esa_device.specs.Logs.{IsFaithful, NoneFailed}
 use Rattle.esa_floor.specs.Keeping.{HasInput}
-use Rattle.esa_floor.specs.Written.{AreItems, EachGaveItsBlock, EachTookItsBlock, NoWriteFailed}
+use Rattle.esa_floor.specs.Written.{AreItems, EachGaveItsBlock, EachTookItsBlock}
 use Rattle.esa_params.specs.Slots.{item_length}
 use Rattle.esa_report.specs.declared.item.Item.{Item}
 use Rattle.esa_spec.specs.Fronts.{Begins}
@@ -23,7 +23,7 @@ invariant-loop-attempt g l = record {
   log : Begins l.initial.floor.recorder.log l.floor.recorder.log;
   input : (record_of : ℕ → Item) → IsFaithful g.G.Told.plan l.floor.recorder.log → HasInput l.initial.floor record_of → HasInput l.floor record_of;
   took : (record_of : ℕ → Item) → AreItems (item_length g.G.Told.plan.form) record_of → EachTookItsBlock g.G.Told.draws record_of l.initial.floor → EachTookItsBlock g.G.Told.draws record_of l.floor;
-  writes : NoWriteFailed l.initial.floor.recorder.log → NoWriteFailed l.floor.recorder.log;
+  failed : NoneFailed l.initial.floor.recorder.log → NoneFailed l.floor.recorder.log;
   reads : EachGaveItsBlock g.G.Told.draws l.initial.floor → EachGaveItsBlock g.G.Told.draws l.floor;
   origin : roots_of l.floor ≡ roots_of l.initial.floor;
 }

@@ -5,7 +5,9 @@ use Rattle.esa_params.specs.Sizes.{Sizes}
 use Rattle.esa_floor.specs.Parts.{Parts}
 use Rattle.esa_floor.specs.declared.floor.Roots.{Roots}
 use Rattle.esa_model.specs.Forecast.{made}
+use Rattle.esa_spec.specs.Histories.{lists}
 use Rattle.esa_shuffle.specs.Records.{IsShuffledFrom}
+use Rattle.esa_shuffle.specs.Runs.{EndWithCut, lists_ended}
 use Rattle.esa_shuffle.proofs.Ending.{ends_seen}
 use Rattle.esa_shuffle.proofs.Loaded.{given_where}
 use Rattle.esa_shuffle.proofs.runs.run_on.Goals as goal
@@ -44,3 +46,15 @@ returns-clause-given g c =
       became = subst (λ (h : List ℕ). IsShuffledFrom p ds hs c.args.floor.outer c.args.floor.run h c.give-recorder.result.recorder.log done.result has.given) (sym history)
           (subst (λ (r : Recorded _). IsShuffledFrom p ds hs c.args.floor.outer c.args.floor.run (done.new.floor.history ++ p.workers ∷ []) r.log done.result has.given) (sym recorder) has.became);
     }
+
+pub returns-clause-cut : goal.returns-clause-cut
+returns-clause-cut g c =
+    let p = g.G.Told.plan in
+    let hs = made p g.G.Told.draws c.args.turns.now in
+    let done = c.load_and_run-outcome in
+    let recorder = ap (λ x. x.recorder) c.give-recorder.ensures ∙ ap (λ (x : Parts _). x.recorder) c.end.ensures.ended in
+    let history : c.give-recorder.result.history ≡ done.new.floor.history ++ p.workers ∷ [] =
+    ap (λ x. x.history) c.give-recorder.ensures ∙ ap (λ (x : Parts _). x.history) c.end.ensures.ended
+    ∙ ap (λ (q : Sizes). done.new.floor.history ++ q.workers ∷ []) done.ensures.ends.stands.of.plan in
+    subst (λ (h : List ℕ). EndWithCut p (lists p.workers h) hs c.give-recorder.result.recorder.trace done.result) (sym history)
+    (subst (λ (r : Recorded _). EndWithCut p (lists_ended p done.new.floor) hs r.trace done.result) (sym recorder) done.ensures.cut)

@@ -5,11 +5,12 @@ use Rattle.esa_device.specs.Logs.{Carried}
 use Rattle.esa_envelope.specs.declared.keys.Keys.{Keys}
 use Rattle.esa_params.specs.Sizes.{ArePlanned, Sizes}
 use Rattle.esa_floor.specs.Parts.{Parts}
+use Rattle.esa_spec.specs.Histories.{lists}
 use Rattle.esa_model.specs.Forecast.{made}
 use Rattle.esa_model.specs.Turns.{AreWorkers}
 use Rattle.esa_shuffle.specs.Loading.{HasGiven}
 use Rattle.esa_shuffle.specs.Records.{IsShuffledFrom}
-use Rattle.esa_shuffle.specs.Runs.{AreFresh, EndsRun, opens_last, seen_of}
+use Rattle.esa_shuffle.specs.Runs.{AreFresh, EndWithCut, EndsRun, opens_last, seen_of}
 use Rattle.esa_shuffle.proofs.Ending.{fresh}
 use Rattle.esa_shuffle.proofs.Taking.{is_member}
 use Rattle.esa_shuffle.proofs.shuffle.run_told.Goals as goal
@@ -72,3 +73,8 @@ run_on-requires-clause-log g c =
     let none = ap length c.keeps_its_log.ensures.accesses ∙ ap length c.requires.trace in
     ap (λ (x : Parts _). x.recorder.log) c.in-Ok-make-2.ensures.parts
     ∙ nil_from_length log (sym (length-map log (λ (entry : Carried). entry.access)) ∙ none)
+
+pub returns-in-Ok-make-2-clause-cut : goal.returns-in-Ok-make-2-clause-cut
+returns-in-Ok-make-2-clause-cut g c =
+    let ran = c.run_on.result in
+    subst (λ (q : Sizes). EndWithCut q (lists q.workers ran.history) (made q g.G.Told.draws c.args.turns.now) ran.recorder.trace ran.outcome) c.requires.plan c.run_on.ensures.cut

@@ -18,7 +18,7 @@ use Rattle.esa_workers.proofs.distributions.distribute.Goals as goal
 kept : (g : Over) (c : After-keeps_its_log g) → IsKept g.V.Device.faults g.G.Told.plan g.G.Told.draws c.begin.new.self
 kept g c =
     kept_begun g.V.Device.faults g.G.Told.plan g.G.Told.draws c.args.held.value c.begin.new.self c.args.attempt c.begin.ensures.begun c.begin.ensures.stands c.keeps_its_log.ensures
-    c.requires.took c.requires.writes c.requires.reads
+    c.requires.took c.requires.failed c.requires.reads
 
 -- and the owner has left
 begun : (g : Over) (c : After-leave g) → IsKept g.V.Device.faults g.G.Told.plan g.G.Told.draws c.begin.new.self

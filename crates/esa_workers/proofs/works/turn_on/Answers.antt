@@ -39,7 +39,7 @@ returns-clause-kept g c =
       queues = t.queues keeps.records c.requires.kept.queues;
       slots = t.slots keeps.chunks c.requires.kept.slots;
       took = λ record_of items. t.took record_of keeps.chunks (c.requires.kept.took record_of items);
-      writes = t.writes c.requires.kept.writes;
+      failed = t.failed c.requires.kept.failed;
       reads = t.reads c.requires.kept.reads;
     }
 

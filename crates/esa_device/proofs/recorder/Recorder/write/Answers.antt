@@ -4,9 +4,9 @@ use Rattle.std.specs.Prelude.{OnOk, OnErr, slice_set}
 use Rattle.esa_params.specs.Sizes.{Sizes}
 use Rattle.esa_params.specs.declared.slot.Op.TheVariants.{Write}
 use Rattle.esa_device.specs.Blocks.{ChangesBlock}
-use Rattle.esa_device.specs.Logs.{Carried, IsBacked}
+use Rattle.esa_device.specs.Logs.{Carried, IsBacked, last_given}
 use Rattle.esa_device.specs.Recording.{Names, Recorded, number_in}
-use Rattle.esa_device.proofs.LogLaws.{accesses-push, backed-write}
+use Rattle.esa_device.proofs.LogLaws.{accesses-push, asks, backed-write, given-write}
 use Rattle.esa_device.proofs.recorder.Recorder.write.Goals as goal
 
 pub invariant_of-self : goal.invariant_of-self
@@ -26,5 +26,7 @@ invariant_of-self g c =
           (λ blocks told. subst (λ (k : ℕ). OnOk c.write-done.result (g.V.Device.told c.write-done.new.self ≡ Some (slice_set blocks k c.args.bytes.now))) number (c.write-done.ensures.written blocks told))
           (λ blocks told. subst (λ (k : ℕ). OnErr c.write-done.result (ChangesBlock blocks k (g.V.Device.told c.write-done.new.self))) number (c.write-done.ensures.failed blocks told))
           c.write-done.ensures.silent c.self.invariant.backed);
+      gave = c.self.invariant.gave
+          ∙ sym (ap last_given log ∙ given-write c.self.inside.log.entries c.args.access c.write-done.result c.args.bytes.now (asks Write c.args.self.now.plan c.args.access (length c.args.bytes.now) c.requires.named));
       fits = search rules;
     }

@@ -5,7 +5,7 @@ use Rattle.esa_floor.specs.Keeping.{HoldsAfter, HoldsChunks, HoldsRecords, Queue
 use Rattle.esa_floor.specs.Parts.{Parts}
 use Rattle.esa_floor.specs.Standing.{attempt_begun, turns_made}
 use Rattle.esa_floor.specs.Working.{Working}
-use Rattle.esa_floor.specs.Written.{EachTookItsBlock, ReadsGaveTheirBlocks, WritesFailed}
+use Rattle.esa_floor.specs.Written.{EachTookItsBlock, FailedByStop, ReadsGaveTheirBlocks}
 use Rattle.esa_floor.proofs.Chunking.{chunks_on, others_on as others_hold_on}
 use Rattle.esa_floor.proofs.Failing.{failed_turn}
 use Rattle.esa_floor.proofs.Giving.{gave_turn}
@@ -222,13 +222,14 @@ returns-clause-others_still g c = λ h other holds.
     subst (λ (x : Parts _). HoldsAfter g.G.Told.draws h x other) (is g c)
     (holds_still f new w.number room w g.V.Device.faults g.G.Told.draws worker turn.kept c.requires.of.run turn.idle turn.later turn.log h other holds)
 
-pub returns-clause-writes : goal.returns-clause-writes
-returns-clause-writes g c =
+pub returns-clause-failed : goal.returns-clause-failed
+returns-clause-failed g c =
     let f = c.args.self.now in
     let w = c.args.worker.now in
+    let worker = apart g c in
     let turn = c.take-turn.ensures in
-    subst (λ (x : Parts _). WritesFailed f.stop f.recorder.log → WritesFailed x.stop x.recorder.log) (sym c.self.view_is)
-    (failed_turn f c.take-turn.new.self w.run (attempt_begun f) (next f.plan.b (turns_made f) w.number) w.buffers.chunks turn.idle turn.later turn.log)
+    subst (λ (x : Parts _). FailedByStop f.stop f.recorder.log → FailedByStop x.stop x.recorder.log) (sym c.self.view_is)
+    (failed_turn g.V.Device.faults g.G.Told.draws f c.take-turn.new.self w.run w.number w.buffers.chunks worker turn.kept turn.idle turn.later turn.log turn.stops)
 
 pub returns-clause-reads : goal.returns-clause-reads
 returns-clause-reads g c = λ before.

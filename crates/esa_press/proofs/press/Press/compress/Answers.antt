@@ -38,7 +38,7 @@ loop-output-init g c =
       waits = omega (arith, none, start, empty);
       made = made_none g.V.Device.faults f.plan f.run d c.args.attempt (order f.plan.b (turns_made f)) f.recorder tt;
       log = pressing_read f.recorder.log f.recorder.log (reads_none f.recorder.log);
-      writes = λ none. none;
+      failed = λ none. none;
       reads = λ made gave. gave;
       puts = λ record_of orders holds faithful. (
         put_none f.plan f.run d (turns_made f) c.args.attempt record_of f.recorder.log,
@@ -186,7 +186,7 @@ loop-output-preserved g c =
           (subst (λ (x : Parts _). AreMade {T = Unit {0}} g.V.Device.faults x.plan x.run d (order x.plan.b (turns_made x)) c.args.attempt (steps_of x.plan j) old new (Ok tt)) inv.floor
           c.in_default.ensures.made);
       log = pressing_then f.recorder.log old.log new.log inv.log c.put_out.ensures.log;
-      writes = λ none. c.in_default.ensures.writes (inv.writes none);
+      failed = λ none. c.in_default.ensures.failed (inv.failed none);
       reads = λ made gave. c.in_default.ensures.reads (subst (λ (x : Parts _). attempt_turns x a ≡ turns_made x) (sym inv.floor) made) (inv.reads made gave);
       puts = λ record_of orders holds faithful.
           let one : PutsWaiting {T = Unit {0}} p f.run d h a lists record_of j c.loop-output.from c.min-end.result f.recorder.log old.log new.log c.loop-output.self.queue c.put_out.new.self.queue (Ok tt) =
@@ -196,11 +196,11 @@ loop-output-preserved g c =
           one planned orders holds so_far.0 faithful so_far.1;
     }
 
-pub returns-in-Err-clause-writes : goal.returns-in-Err-clause-writes
-returns-in-Err-clause-writes g c = λ none. c.in-Err.ensures.writes (c.loop-output.invariant.writes none)
+pub returns-in-Err-clause-failed : goal.returns-in-Err-clause-failed
+returns-in-Err-clause-failed g c = λ none. c.in-Err.ensures.failed (c.loop-output.invariant.failed none)
 
-pub returns-clause-writes : goal.returns-clause-writes
-returns-clause-writes g c = c.loop-output.invariant.writes
+pub returns-clause-failed : goal.returns-clause-failed
+returns-clause-failed g c = c.loop-output.invariant.failed
 
 pub returns-in-Err-clause-reads : goal.returns-in-Err-clause-reads
 returns-in-Err-clause-reads g c = λ made gave.

@@ -152,13 +152,13 @@ returns-in-Err-clause-took g c = λ record_of made queues.
     let a = c.args.attempt in
     took_drained f g.G.Told.draws a (turns_made f) record_of made g.V.Device.faults (sym c.requires.spread.writes ∙ c.requires.all) queues {T = Unit {0}} c.drain_one.new.floor (Err c.in-Err.halt) (returns-in-Err-clause-ends g c)
 
-pub returns-clause-writes : goal.returns-clause-writes
-returns-clause-writes g c =
+pub returns-clause-failed : goal.returns-clause-failed
+returns-clause-failed g c =
     let f = c.args.floor.now in
     drained_ends g.V.Device.faults c.args.attempt f (g.G.Told.draws c.args.attempt) (order f.plan.b (turns_made f)) c.loop-target.floor (Ok tt) (returns-clause-ends g c)
 
-pub returns-in-Err-clause-writes : goal.returns-in-Err-clause-writes
-returns-in-Err-clause-writes g c =
+pub returns-in-Err-clause-failed : goal.returns-in-Err-clause-failed
+returns-in-Err-clause-failed g c =
     let f = c.args.floor.now in
     drained_ends g.V.Device.faults c.args.attempt f (g.G.Told.draws c.args.attempt) (order f.plan.b (turns_made f)) c.drain_one.new.floor (Err c.in-Err.halt) (returns-in-Err-clause-ends g c)
 

@@ -60,6 +60,7 @@ loop-target-init g c =
       made = subst (λ (n : ℕ). AreMade {T = Unit {0}} g.V.Device.faults f.plan f.run d (order f.plan.b (turns_made f)) c.args.attempt (map (Import c.args.output) (range_with_len c.args.from n)) f.recorder f.recorder (Ok tt))
           (sym none) (made_none g.V.Device.faults f.plan f.run d c.args.attempt (order f.plan.b (turns_made f)) f.recorder tt);
       log = reads_none f.recorder.log;
+      failed = λ none. none;
       reads = λ made gave. gave;
       keeps = λ record_of planned orders holds faithful waits. waits;
     }
@@ -67,6 +68,12 @@ loop-target-init g c =
 pub returns-in-Err-clause-log : goal.returns-in-Err-clause-log
 returns-in-Err-clause-log g c =
     reads_then c.args.floor.now.recorder.log c.loop-target.floor.recorder.log c.import_target.new.floor.recorder.log c.loop-target.invariant.log c.import_target.ensures.log
+
+pub returns-in-Err-clause-failed : goal.returns-in-Err-clause-failed
+returns-in-Err-clause-failed g c = λ none. c.in-Err.ensures.failed (c.loop-target.invariant.failed none)
+
+pub returns-clause-failed : goal.returns-clause-failed
+returns-clause-failed g c = c.loop-target.invariant.failed
 
 pub returns-in-Err-clause-keeps : goal.returns-in-Err-clause-keeps
 returns-in-Err-clause-keeps g c = λ record_of planned orders holds faithful waits.
@@ -144,6 +151,7 @@ loop-target-preserved g c =
           (subst (λ (x : Parts _). AreMade {T = Unit {0}} g.V.Device.faults x.plan x.run d (order x.plan.b (turns_made x)) c.args.attempt (Import c.args.output t ∷ []) old new (Ok tt)) inv.floor
           c.in_default.ensures.made)));
       log = reads_then f.recorder.log old.log new.log inv.log c.import_target.ensures.log;
+      failed = λ none. c.in_default.ensures.failed (inv.failed none);
       reads = λ made gave. c.in_default.ensures.reads (subst (λ (x : Parts _). attempt_turns x a ≡ turns_made x) (sym inv.floor) made) (inv.reads made gave);
       keeps = λ record_of planned orders holds faithful waits.
           let one : KeepsWaiting {T = Unit {0}} f.plan f.run d h a lists record_of c.args.output t (t + 1) old.log new.log c.loop-target.self.queue c.import_target.new.self.queue (Ok tt) =

@@ -8,7 +8,7 @@ use Rattle.esa_spec.specs.Verdicts.{Import, reached}
 use Rattle.esa_press.specs.Stepped.{AreMade}
 use Rattle.esa_press.specs.Contents.{AreOrders, GoesOnGiving, HoldsDistribution, waiting_items}
 use Rattle.esa_press.specs.Fetched.{GoesOnReading}
-use Rattle.esa_device.specs.Logs.{IsFaithful}
+use Rattle.esa_device.specs.Logs.{IsFaithful, NoneFailed}
 use Rattle.esa_report.specs.declared.item.Item.{Item}
 use Rattle.esa_press.proofs.press.Press.import_ahead.Given as goal
 
@@ -24,6 +24,7 @@ invariant-loop-target g l = record {
   made : AreMade {T = Unit {0}} g.V.Device.faults l.fn.floor.plan l.fn.floor.run (g.G.Told.draws l.attempt) (order l.fn.floor.plan.b (turns_made l.fn.floor)) l.attempt
       (map (Import l.output) (range_with_len l.from (l.target - l.from))) l.fn.floor.recorder l.floor.recorder (Ok tt);
   log : GoesOnReading l.fn.floor.recorder.log l.floor.recorder.log;
+  failed : NoneFailed l.fn.floor.recorder.log → NoneFailed l.floor.recorder.log;
   reads : GoesOnGiving {T = Unit {0}} g.G.Told.draws l.attempt l.fn.floor l.floor (Ok tt);
   keeps : (record_of : ℕ → Item) → ArePlanned l.fn.floor.plan → AreOrders l.fn.floor.plan (g.G.Told.draws l.attempt) (g.C.Coins.order_list l.coins l.attempt)
       → HoldsDistribution l.fn.floor.plan l.fn.floor.run (g.G.Told.draws l.attempt) (turns_made l.fn.floor) l.attempt record_of l.fn.floor.recorder.log

@@ -6,14 +6,16 @@ use Rattle.esa_params.specs.Sizes.{Sizes}
 use Rattle.esa_device.specs.Recording.{Recorded}
 use Rattle.esa_press.specs.Pressed.{ImportAnswer, Pressed}
 use Rattle.esa_compress.specs.Held.{held_in}
-use Rattle.esa_device.specs.Logs.{IsFaithful}
+use Rattle.esa_device.specs.Logs.{IsFaithful, NoneFailed}
 use Rattle.esa_envelope.specs.declared.keys.Keys.{Keys}
 use Rattle.esa_report.specs.declared.item.Item.{Item}
+use Rattle.esa_press.specs.Contents.{FailedByHalt}
 use Rattle.esa_press.specs.Fetched.{AreStored, GoesOnReading}
 use Rattle.esa_press.specs.Records.{imported_items}
 use Rattle.esa_press.specs.Stepped.{parts_counted}
 use Rattle.esa_press.proofs.Counting.{parts_few, tail_few}
 use Rattle.esa_press.proofs.Fetching.{on_ok}
+use Rattle.esa_press.proofs.Failing.{import_failed}
 use Rattle.esa_press.proofs.Giving.{import_gave}
 use Rattle.esa_press.proofs.Stepping.{import_keeps, import_logs, import_totals, import_made, waits_few, waits_more}
 use Rattle.esa_press.proofs.Storing.{are_stored, import_answer_is, import_kept}
@@ -97,6 +99,11 @@ pub returns-clause-log : goal.returns-clause-log
 returns-clause-log g c =
     subst (λ (r : Recorded _). GoesOnReading r.log c.import.new.recorder.log) c.recorder.ensures.value
     (import_logs g.V.Device.faults c.count.new.self.plan c.count.new.self.run c.args.attempt c.args.target c.count.new.self.counts c.count.new.self.queue c.recorder.result.now c.import.new.recorder c.import.result c.import.ensures.answer)
+
+pub returns-clause-failed : goal.returns-clause-failed
+returns-clause-failed g c =
+    subst (λ (r : Recorded _). NoneFailed r.log → FailedByHalt c.import.result c.import.new.recorder.log) c.recorder.ensures.value
+    (import_failed g.V.Device.faults c.count.new.self.plan c.count.new.self.run c.args.attempt c.args.target c.count.new.self.counts c.count.new.self.queue c.recorder.result.now c.import.new.recorder c.import.result c.import.ensures.answer)
 
 pub returns-clause-gives : goal.returns-clause-gives
 returns-clause-gives g c =

@@ -1,5 +1,6 @@
 use Rattle.std.proofs.Common.{◌≡◌, ◌+◌, ◌-◌, ◌≤◌, ℕ, suc, [], ◌∷◌, ◌++◌, Err, All, map, sym, ap, ◌∙◌, subst, arith, length, take, drop}
 use Rattle.std.specs.List.{range_with_len}
+use Rattle.esa_device.specs.Logs.{NoneFailed}
 use Rattle.esa_compress.proofs.ImportLaws.{climbs, queue-front, queue-put}
 use Rattle.esa_floor.specs.Standing.{turns_made}
 use Rattle.esa_params.specs.Sizes.{Sizes, first, size}
@@ -9,9 +10,9 @@ use Rattle.esa_device.specs.Recording.{Recorded}
 use Rattle.esa_envelope.specs.declared.keys.Keys.{Keys}
 use Rattle.esa_press.specs.Pressed.{Pressed, PutAnswer}
 use Rattle.esa_press.specs.Stepped.{AreMade}
-use Rattle.esa_floor.specs.Written.{GaveItsOwn, NoWriteFailed, attempt_turns}
+use Rattle.esa_floor.specs.Written.{GaveItsOwn, attempt_turns}
 use Rattle.esa_floor.proofs.Giving.{gave-write}
-use Rattle.esa_press.proofs.Failing.{any_end, put_ends, reads_move}
+use Rattle.esa_press.proofs.Failing.{put_ends}
 use Rattle.esa_press.proofs.Fetching.{on_ok}
 use Rattle.esa_press.proofs.Giving.{put_gave}
 use Rattle.esa_press.proofs.Stepping.{made_bad, made_more, put_one, put_totals, put_waits}
@@ -135,18 +136,14 @@ returns-clause-puts g c = λ record_of before planned orders holds so_far faithf
     (ap (drop (size f.plan j)) here_waits ∙ queue-put f.plan d h c.requires.at.counted.drawn c.requires.at.counted.all c.requires.at.counted.fits record_of j i)
     (put_read f.plan f.run d h a record_of j before f.recorder.log mid.log so_far c.import_ahead.ensures.log) answer
 
-pub returns-in-Err-clause-writes : goal.returns-in-Err-clause-writes
-returns-in-Err-clause-writes g c = λ none.
-    let new = c.import_ahead.new.floor.recorder.log in
-    any_end {T = Unit {0}} (Err c.in-Err.halt) new (reads_move c.args.floor.now.recorder.log new c.import_ahead.ensures.log none)
+pub returns-in-Err-clause-failed : goal.returns-in-Err-clause-failed
+returns-in-Err-clause-failed g c = c.in-Err.ensures.failed
 
-pub returns-clause-writes : goal.returns-clause-writes
-returns-clause-writes g c = λ none.
+pub returns-clause-failed : goal.returns-clause-failed
+returns-clause-failed g c = λ none.
     let w = c.import_ahead.new.self in
-    let mid = c.import_ahead.new.floor.recorder in
-    let still = reads_move c.args.floor.now.recorder.log mid.log c.import_ahead.ensures.log none in
     put_ends g.V.Device.told g.V.Device.faults g.V.Device.last_call w.plan w.run c.args.attempt c.args.output w.queue c.put.new.self.queue c.recorder.result.now c.put.new.recorder c.put.result c.put.ensures.answer
-    (subst (λ (r : Recorded _). NoWriteFailed r.log) (sym c.recorder.ensures.value) still)
+    (subst (λ (r : Recorded _). NoneFailed r.log) (sym c.recorder.ensures.value) (c.in_default.ensures.failed none))
 
 pub returns-in-Err-clause-reads : goal.returns-in-Err-clause-reads
 returns-in-Err-clause-reads g c = c.in-Err.ensures.reads
