@@ -12,7 +12,7 @@ use Rattle.esa_command.specs.Step.{Step, Reads}
 use Rattle.esa_command.specs.Work.{Write, Work}
 use Rattle.esa_running.specs.declared.purpose.Purpose.{Purpose}
 use Rattle.esa_running.specs.declared.purpose.Purpose.TheVariants.{Count, HandOn}
-use Rattle.esa_running.specs.Run.{Asked}
+use Rattle.esa_taking.specs.Run.{Asked}
 use Rattle.esa_running.specs.RunOwes.{RunOwes}
 use Rattle.esa_lists.specs.Files.{Files}
 use Rattle.esa_device.specs.Recording.{Recorded}

@@ -169,9 +169,9 @@ module _ {V : Type 0} (faults : V → ℕ) (m : Meaning) (around : Around V) (so
         → Acts m around (ShowsFailed ended around text)
         → Shows m around text ended
     shows_failed status.Ok counts all does = absurd (ok_gives_way all)
-    shows_failed (status.Overflow failures) counts all does = inr does
-    shows_failed (status.Tampered slot) counts all does = inr does
-    shows_failed (status.DeviceFault at) counts all does = inr does
+    shows_failed (status.Overflow failures) counts all does = does
+    shows_failed (status.Tampered slot) counts all does = does
+    shows_failed (status.DeviceFault at) counts all does = does
     shows_failed (status.OutsideFault role.Input) counts all does = inr does
     shows_failed other counts all does = absurd counts
 

@@ -123,9 +123,12 @@ pub record ShowsFailed {V : Type 0} (ended : Status) (around : Around V) (text :
   pub front : AddsFront text (flat_map line_of work.prints) around.printer_now.told
   pub all : ¬ CabinetRose around → ¬ PrinterRose around → around.printer_now.told ≡ Some (text ++ flat_map line_of work.prints)
 
--- On Ok the lines that were owed are printed, and after a fault of the printer a front of them. Else it is the status's own
--- line, or the lines of a work that fails so.
+-- On Ok the lines that were owed are printed, and after a fault of the printer a front of them. On Overflow, DeviceFault and
+-- Tampered it is the lines of a work that fails so. Else it is the status's own line, or such lines.
 abbrev pub Shows : {V : Type 0} → Meaning → Around V → List ℕ → Status → Type 0
 Shows m around text status.Ok = Acts m around (ShowsAll around text)
 Shows m around text (status.OutsideFault role.Printer) = Acts m around (ShowsFront around text)
+Shows m around text (status.Overflow failures) = Acts m around (ShowsFailed (status.Overflow failures) around text)
+Shows m around text (status.DeviceFault at) = Acts m around (ShowsFailed (status.DeviceFault at) around text)
+Shows m around text (status.Tampered slot) = Acts m around (ShowsFailed (status.Tampered slot) around text)
 Shows m around text other = ShowsLine around text (status_text other) ⊎ Acts m around (ShowsFailed other around text)

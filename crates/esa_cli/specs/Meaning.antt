@@ -22,7 +22,7 @@ use Rattle.esa_analysing.specs.Histogram.{histogram_steps}
 use Rattle.esa_analysing.specs.Recover.{recover_steps}
 use Rattle.esa_analysing.specs.Upgrade.{upgrade_steps}
 use Rattle.esa_running.specs.declared.purpose.Purpose.TheVariants.{Count, HandOn}
-use Rattle.esa_running.specs.Run.{Asked, run_steps}
+use Rattle.esa_taking.specs.Run.{Asked, run_steps}
 use Rattle.esa_running.specs.RunEnded.{IsIdle}
 use Rattle.esa_running.specs.RunOwes.{RunOwes}
 

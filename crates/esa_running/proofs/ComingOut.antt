@@ -1,8 +1,8 @@
 -- What the load of a shuffle was given, what became of it, and what comes out.
-use Rattle.std.proofs.Common.{◌≡◌, ◌≢◌, inl, inr, ℕ, suc, ◌+◌, true, ◌*◌, ◌<◌, List, [], ◌∷◌, ◌++◌, length, map, take, get_or, Option, Some, None, Result, Err, refl, sym, ap, subst, ◌∙◌, append-nil, length-append, arith}
+use Rattle.std.proofs.Common.{◌≡◌, ◌≢◌, inl, inr, ℕ, suc, ◌+◌, true, ◌*◌, ◌<◌, List, [], ◌∷◌, ◌++◌, length, map, take, get_or, Option, Some, None, Result, Err, refl, sym, ap, subst, ◌∙◌, append-nil, append_assoc, length-append, arith}
 use Rattle.std.specs.List.{concat}
 use Rattle.std.specs.Prelude.{All}
-use Rattle.std.proofs.lemmas.List.Elements.{All-append, All-cons, All-head, All-map, All-nil, All-tail}
+use Rattle.std.proofs.lemmas.List.Elements.{All-append, All-cons, All-head, All-map, All-nil, All-push, All-tail, All-weaker}
 use Rattle.esa_analyser.specs.Opened.{database_of}
 use Rattle.esa_batcher.specs.InFile.{part_heard, records_of}
 use Rattle.esa_coins.specs.AnyCoins.{any_plan}
@@ -12,14 +12,15 @@ use Rattle.esa_crowds.specs.Entries.{entries}
 use Rattle.esa_crowds.specs.Kept.{drops_in, sent_from}
 use Rattle.esa_crowds.specs.Rows.{kept_at}
 use Rattle.esa_crowds.proofs.SentLaws.{sent-forwarded}
-use Rattle.esa_device.specs.Logs.{Carried, IsBacked, IsFaithful}
+use Rattle.esa_device.specs.Logs.{Carried, IsBacked, IsFaithful, NoneFailed, OnlyLastFailed, last_given}
 use Rattle.esa_device.specs.Recording.{Recorded}
 use Rattle.esa_device.proofs.LogLaws.{faithful-front}
+use Rattle.esa_envelope.specs.declared.keys.Keys.{Keys}
 use Rattle.esa_ending.specs.Seen.{Seen, turns_in as turns_at}
-use Rattle.esa_floor.specs.Written.{EachButLast, GaveItsBlock, GaveWhatOpens, NoWriteFailed, OnlyLastFailed, TookItsBlock}
+use Rattle.esa_floor.specs.Written.{EachButLast, GaveItsBlock, GaveWhatOpens, TookItsBlock}
 use Rattle.esa_floor.specs.declared.turn.Outcome.{Outcome}
 use Rattle.esa_floor.specs.declared.turn.Outcome.TheVariants as outcome
-use Rattle.esa_floor.proofs.Failing.{Moved, none_but_last}
+use Rattle.esa_floor.proofs.Failing.{Moved, last_failed, some_bytes}
 use Rattle.esa_floor.proofs.Giving.{each_append, each_before}
 use Rattle.esa_header.specs.Header.{header_length}
 use Rattle.esa_header.specs.Pieces.{HaveLength, pieces}
@@ -29,6 +30,7 @@ use Rattle.esa_laws.proofs.HistoryLaws.{lists-first}
 use Rattle.esa_laws.proofs.SizeLaws.{first-all, first-zero}
 use Rattle.esa_lists.specs.Files.{Files}
 use Rattle.esa_outside.specs.Heard.{Event}
+use Rattle.esa_parallel.specs.Crews.{uncut_of}
 use Rattle.esa_params.specs.Form.{envelope_length, inner_length}
 use Rattle.esa_params.specs.Sizes.{ArePlanned, Sizes, below, first, size}
 use Rattle.esa_params.specs.Slots.{at}
@@ -62,11 +64,12 @@ use Rattle.esa_vault.specs.declared.fault.VaultFault.TheVariants.{Device, Tamper
 use Rattle.esa_command.specs.Asked.{number_of}
 use Rattle.esa_command.specs.Stand.{Stand}
 use Rattle.esa_command.specs.Taking.{name_of}
-use Rattle.esa_running.specs.ComingOut.{batch_told, batch_part, batch_record, IsLoaded, Became, AreOfBatch, IsMadeOf, kept_of}
+use Rattle.esa_running.specs.ByCrew.{IsByCrew}
+use Rattle.esa_running.specs.ComingOut.{batch_told, batch_part, batch_record, IsLoaded, Became, AreOfBatch, FailedByStatus, IsMadeOf, kept_of}
 use Rattle.esa_running.specs.Forwarding.{Forwards, BreaksOff}
-use Rattle.esa_running.specs.Run.{Asked}
+use Rattle.esa_taking.specs.Run.{Asked}
 use Rattle.esa_running.specs.RunOwes.{EndsShuffle, IsRecorded, fault_status}
-use Rattle.esa_running.specs.Wanted.{sizes_in, turns_by, block_keys, outer_keys, drop_key}
+use Rattle.esa_taking.specs.Wanted.{sizes_in, turns_by, block_keys, outer_keys, drop_key}
 use Rattle.esa_running.proofs.SentLaws.{forwarded_whole, same_number}
 
 -- ---- the draws
@@ -129,12 +132,13 @@ module _ (asked : Asked) (taken acted : Stand Files) (history : List ℕ) (log :
         ∙ first-all p planned.parameters.b_least
 
     pub made_of : (seen : Seen) (last : List ℕ) (failures : List Verdict) → ArePlanned (sizes_in asked) → seen.history ≡ history → EndsShuffle asked seen last failures o
-        → IsMadeOf asked history log o gave.given
-    made_of seen last failures planned is ends = record {
+        → IsByCrew asked history (uncut_of o) → IsMadeOf asked history log o gave.given
+    made_of seen last failures planned is ends crew = record {
       count = first (sizes_in asked) gave.load.count;
       whole = gave.load.bytes;
-      all = λ a succeeded. all_given seen a planned is (subst (EndsShuffle asked seen last failures) succeeded ends).outcome;
+      all = λ a succeeded. all_given seen a planned is (subst (EndsShuffle asked seen last failures) succeeded ends).run.outcome;
       shuffled = gave.became;
+      crew = crew;
     }
 
 -- where no load was begun, it was given nothing
@@ -155,7 +159,7 @@ none_became asked log none = record {
   took = λ faithful.
       let Took = TookItsBlock (sizes_in asked) (block_keys asked) asked.draws (batch_record asked []) (turns_at (lists (sizes_in asked).workers [])) in
       subst (All Took) (sym none) (All-nil Took);
-  failed = subst OnlyLastFailed (sym none) (none_but_last [] (All-nil Moved));
+  failed = subst NoneFailed (sym none) (All-nil Moved);
   written = subst (IsWrittenFrom (sizes_in asked) (block_keys asked) []) (sym none) (written_nothing (sizes_in asked) (block_keys asked));
   gave =
       subst (EachButLast (GaveWhatOpens (sizes_in asked) (block_keys asked) asked.draws (turns_at (lists (sizes_in asked).workers [])))) (sym none)
@@ -166,10 +170,11 @@ none_became asked log none = record {
 none_in : (before after : List Carried) (entry : Carried) → [] ≡ before ++ entry ∷ after → ⊥
 none_in before after entry is = let long = ap length is in let parts = length-append before (entry ∷ after) in omega (arith, long, parts)
 
-pub none_recorded : {V : Type 0} (told : V → Option (List (List ℕ))) (p : Sizes) (now : Recorded V) → now.trace ≡ [] → now.log ≡ [] → IsRecorded told p [] now
-none_recorded told p now no_trace no_log = record {
+pub none_recorded : {V : Type 0} (told : V → Option (List (List ℕ))) (p : Sizes) (now : Recorded V) → now.trace ≡ [] → now.log ≡ [] → now.last ≡ [] → IsRecorded told p [] now
+none_recorded told p now no_trace no_log no_last = record {
   plan = λ some. absurd (some refl);
   logged = ap (map (λ (entry : Carried). entry.access)) no_log ∙ sym no_trace;
+  last = no_last ∙ sym (ap last_given no_log);
   backed = subst (IsBacked (Some p) (told now.device)) (sym no_log)
       (λ blocks tells. ((λ number bytes took. absurd (let never = took.1 in cc never)), (λ before after entry given written is gave took. absurd (none_in before after entry is))));
 }
@@ -218,6 +223,45 @@ module _ {V : Type 0} (told : V → Option (List (List ℕ))) (faults : V → �
   broken_on {T} fault breaks = elim breaks.1 [
     | inl f ↦ fails_on {T = T} fault [] breaks.0 (All-nil (λ (access : Access). access.op ≡ Read)) f
     | inr f ↦ fails_on {T = T} fault (scan (sizes_in asked) a) breaks.0 (scan-reads (sizes_in asked) a) f
+  ]
+
+-- none of the reads of the scans failed but the last one, where the device failed
+carried_moved : (p : Sizes) (a j : ℕ) (given : List (List ℕ)) → NoneFailed (carried_from p a j given)
+carried_moved p a j [] = All-nil Moved
+carried_moved p a j (bytes ∷ given) = All-cons Moved (record { access = read_output p a j; bytes = Some bytes }) (carried_from p a (suc j) given) (some_bytes bytes) (carried_moved p a (suc j) given)
+
+gave_moved : (p : Sizes) (keys : Keys) (a : ℕ) (entry : Carried) → GaveOpen p keys a entry → Moved entry
+gave_moved p keys a entry gave = λ none. some_bytes gave.0 (sym gave.1 ∙ none)
+
+module _ {V : Type 0} (told : V → Option (List (List ℕ))) (faults : V → ℕ) (asked : Asked) (a : ℕ) (old new : Recorded V) (before : NoneFailed old.log) where
+  pub forwarded_failed : (envelopes : List (List ℕ)) → Forwards told faults asked a old new envelopes → NoneFailed new.log
+  forwarded_failed envelopes f =
+      let p = sizes_in asked in
+      let done = f.forwarded in
+      subst NoneFailed (sym done.log)
+      (All-append Moved old.log (carried_from p a 0 done.first ++ carried_from p a 0 done.second) before
+      (All-append Moved (carried_from p a 0 done.first) (carried_from p a 0 done.second) (carried_moved p a 0 done.first) (carried_moved p a 0 done.second)))
+
+  fails_failed : {T : Type 0} (fault : VaultFault) (earlier : List Access) (j : ℕ)
+      → FailsAt {V = V} {T = T} told faults (sizes_in asked) (block_keys asked) a earlier j old new (Err fault) → FailedByStatus (fault_status fault) new.log
+  fails_failed (Device number) earlier j failed =
+      let p = sizes_in asked in
+      let ends = failed.log in
+      let passed = All-weaker (GaveOpen p (block_keys asked) a) Moved (gave_moved p (block_keys asked) a) ends.passed ends.opened in
+      subst OnlyLastFailed (append_assoc old.log ends.passed (record { access = read_output p a j; bytes = None } ∷ []) ∙ sym ends.log)
+      (last_failed (old.log ++ ends.passed) (read_output p a j) (All-append Moved old.log ends.passed before passed))
+  fails_failed (Tampered number) earlier j failed =
+      let p = sizes_in asked in
+      let ends = failed.log in
+      let last : Carried = record { access = read_output p a j; bytes = Some new.last } in
+      let passed = All-weaker (GaveOpen p (block_keys asked) a) Moved (gave_moved p (block_keys asked) a) ends.passed ends.opened in
+      subst NoneFailed (sym ends.log)
+      (All-append Moved old.log (ends.passed ++ last ∷ []) before (All-push Moved ends.passed last passed (some_bytes new.last)))
+
+  pub broken_failed : {T : Type 0} (fault : VaultFault) → BreaksOff {V = V} {T = T} told faults asked a old new (Err fault) → FailedByStatus (fault_status fault) new.log
+  broken_failed {T} fault breaks = elim breaks.1 [
+    | inl f ↦ fails_failed {T = T} fault [] breaks.0 f
+    | inr f ↦ fails_failed {T = T} fault (scan (sizes_in asked) a) breaks.0 f
   ]
 
 -- what its reads gave opens
@@ -306,28 +350,22 @@ module _ (asked : Asked) (given history : List ℕ) where
         took = λ bytes writes region is. absurd (not_writing (get_or more k d) reads writes);
       }
 
-  reads_moved : (more : List Carried) → All IsReading more → NoWriteFailed more
-  reads_moved more read = λ k d inside writes failed. not_writing (get_or more k d) (read k d inside) writes
-
   module _ (old new : List Carried) (on : ReadsOn old new) (o : Outcome) (m : IsMadeOf asked history old o given) where
     took_on : IsFaithful (sizes_in asked) new → All Took new
     took_on faithful =
         let before = faithful-front (sizes_in asked) old on.0 (subst (IsFaithful (sizes_in asked)) on.1 faithful) in
         subst (All Took) (sym on.1) (All-append Took old on.0 (m.shuffled.took before) (reads_took on.0 on.2))
 
-    none_on : NoWriteFailed old → NoWriteFailed new
-    none_on none = subst NoWriteFailed (sym on.1) (All-append Moved old on.0 none (reads_moved on.0 on.2))
-
     written_on : IsWrittenFrom (sizes_in asked) (block_keys asked) given new
     written_on = subst (IsWrittenFrom (sizes_in asked) (block_keys asked) given) (sym on.1) (written_read (sizes_in asked) (block_keys asked) given old on.0 on.2 m.shuffled.written)
 
-    -- after the scans of an output of which no write failed
-    pub became_well : NoWriteFailed old → All (Opens asked history) new → Became asked given history new status.Ok
-    became_well none opens = record { took = took_on; failed = none_on none; written = written_on; gave = opens }
+    -- after the scans of an output
+    pub became_well : NoneFailed new → All (Opens asked history) new → Became asked given history new status.Ok
+    became_well none opens = record { took = took_on; failed = none; written = written_on; gave = opens }
 
-    pub became_broken : (fault : VaultFault) → NoWriteFailed old → EachButLast (Opens asked history) new → Became asked given history new (fault_status fault)
-    became_broken (Device number) none opens = record { took = took_on; failed = none_but_last new (none_on none); written = written_on; gave = opens }
-    became_broken (Tampered number) none opens = record { took = took_on; failed = none_on none; written = written_on; gave = opens }
+    pub became_broken : (fault : VaultFault) → FailedByStatus (fault_status fault) new → EachButLast (Opens asked history) new → Became asked given history new (fault_status fault)
+    became_broken (Device number) failed opens = record { took = took_on; failed = failed; written = written_on; gave = opens }
+    became_broken (Tampered number) failed opens = record { took = took_on; failed = failed; written = written_on; gave = opens }
 
 -- ---- what comes out
 

@@ -11,7 +11,7 @@ use Rattle.esa_ending.proofs.FrontLaws.{shorter}
 use Rattle.esa_trace.proofs.AttemptLaws.{attempts_fit}
 use Rattle.esa_trace.proofs.NumberLaws.{number_fits}
 use Rattle.esa_running.specs.RunWork.{FitFiles}
-use Rattle.esa_running.specs.StoredTurns.{IsHistory}
+use Rattle.esa_taking.specs.StoredTurns.{IsHistory}
 
 -- a front of the accesses of no more attempts than are planned
 pub front_fits : (p : Sizes) (ds : ℕ → Draw) (hs : List (List ℕ)) (accesses : List Access) (history : List ℕ) → ArePlanned p → length hs ≤ p.attempts → Begins accesses (trace p ds hs) → IsHistory p.workers history

@@ -14,8 +14,8 @@ use Rattle.esa_scans.specs.Scans.{items_from, FailsAt}
 use Rattle.esa_vault.specs.declared.fault.VaultFault.{VaultFault}
 use Rattle.esa_command.specs.Asked.{number_of}
 use Rattle.esa_running.specs.Forwarding.{AreJoined, Forwards, BreaksOff}
-use Rattle.esa_running.specs.Run.{Asked}
-use Rattle.esa_running.specs.Wanted.{sizes_in, block_keys, drop_key}
+use Rattle.esa_taking.specs.Run.{Asked}
+use Rattle.esa_taking.specs.Wanted.{sizes_in, block_keys, drop_key}
 use Rattle.esa_running.proofs.SentLaws.{forwarded_whole, forwarded_few}
 
 module _ {V : Type 0} (told : V → Option (List (List ℕ))) (faults : V → ℕ) (asked : Asked) (attempt : ℕ) (old new : Recorded V) where

@@ -4,7 +4,7 @@ use Rattle.esa_header.proofs.PieceLaws.{length-concat}
 use Rattle.esa_params.specs.declared.form.Form.{Form}
 use Rattle.esa_params.specs.Form.{inner_length}
 use Rattle.esa_running.specs.Forwarding.{AreJoined}
-use Rattle.esa_running.specs.Run.{Asked}
+use Rattle.esa_taking.specs.Run.{Asked}
 use Rattle.esa_running.proofs.SentLaws.{same_number}
 
 module _ (asked : Asked) (envelopes : List (List ℕ)) (bytes : List ℕ) (j : AreJoined asked envelopes bytes) (form : Form) (same : form ≡ asked.batch.form) where

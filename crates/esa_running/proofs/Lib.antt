@@ -1,11 +1,10 @@
-mod BatchSteps
+mod ByCrew
 mod ComingOut
 mod Fitting
 mod Forwarded
 mod HandedIn
 mod Joining
-mod Modes
-mod Needed
+mod NothingMade
 mod RanEnds
 mod Replayed
 mod Rooms
@@ -13,6 +12,4 @@ mod RunEnds
 mod ScanEnds
 mod SentLaws
 mod Shuffled
-mod Stages
 mod Turned
-mod TurnsLaws

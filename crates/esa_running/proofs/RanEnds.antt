@@ -18,11 +18,11 @@ use Rattle.esa_refusal.specs.declared.status.Status.TheVariants as status
 use Rattle.esa_refusal.specs.Failures.{verdicts_of}
 use Rattle.esa_shuffle.specs.Runs.{IsShuffled}
 use Rattle.esa_command.specs.Doing.{failed_work}
-use Rattle.esa_running.specs.Run.{Asked}
+use Rattle.esa_taking.specs.Run.{Asked}
 use Rattle.esa_running.specs.RunOwes.{EndsShuffle, records_owed, where_made, HasOverflowed, HasFailedAt, IsTamperedAt, IsUnloaded}
 use Rattle.esa_running.specs.RunWork.{FitFiles}
-use Rattle.esa_running.specs.StoredTurns.{IsHistory}
-use Rattle.esa_running.specs.Wanted.{sizes_in, turns_by, HasFewAttempts}
+use Rattle.esa_taking.specs.StoredTurns.{IsHistory}
+use Rattle.esa_taking.specs.Wanted.{sizes_in, turns_by, HasFewAttempts}
 use Rattle.esa_running.proofs.Fitting.{front_fits}
 
 module _ (asked : Asked) (seen : Seen) (last : List ℕ) (failures : List Verdict) where
@@ -33,21 +33,21 @@ module _ (asked : Asked) (seen : Seen) (last : List ℕ) (failures : List Verdic
   -- ---- what is owed
 
   pub overflowed : (kept : Failures) → verdicts_of kept ≡ failures → Ended outcome.Overflow → HasOverflowed asked seen (failed_work (status.Overflow kept) (records_owed asked seen))
-  overflowed kept is e = record { failures = kept; ends = subst (Overflows (sizes_in asked) asked.draws (turns_by asked seen.history) seen) (sym is) e.outcome; owed = refl }
+  overflowed kept is e = record { failures = kept; ends = subst (Overflows (sizes_in asked) asked.draws (turns_by asked seen.history) seen) (sym is) e.run.outcome; owed = refl }
 
   pub failed_at : (number : ℕ) → Ended (outcome.DeviceFault number) → HasFailedAt asked seen (failed_work (status.DeviceFault (AtSlot number)) (records_owed asked seen))
-  failed_at number e = record { number = number; ends = e.outcome; owed = refl }
+  failed_at number e = record { number = number; ends = e.run.outcome; turns = λ by. e.cut by e.run.outcome.access e.run.outcome.cut.last; owed = refl }
 
   pub tampered_at : (number : ℕ) → Ended (outcome.Tampered number) → IsTamperedAt asked seen last (failed_work (status.Tampered number) (records_owed asked seen))
-  tampered_at number e = record { number = number; ends = e.outcome; owed = refl }
+  tampered_at number e = record { number = number; ends = e.run.outcome; turns = λ by. e.cut by e.run.outcome.access e.run.outcome.cut.last; owed = refl }
 
   pub unloaded : Ended outcome.BatchFailed → IsUnloaded asked seen (failed_work (status.OutsideFault role.Input) (where_made seen.trace (records_owed asked seen)))
-  unloaded e = record { ends = e.outcome; owed = refl }
+  unloaded e = record { ends = e.run.outcome; owed = refl }
 
   -- no more attempts have failed than are planned
   pub few_failures : Ended outcome.Overflow → length failures ≤ (sizes_in asked).attempts
   few_failures e =
-      omega (arith, ap length e.outcome.verdicts, length-map (below (sizes_in asked).attempts) (verdict_in (sizes_in asked) asked.draws (turns_by asked seen.history)), length-range_with_len 0 (sizes_in asked).attempts)
+      omega (arith, ap length e.run.outcome.verdicts, length-map (below (sizes_in asked).attempts) (verdict_in (sizes_in asked) asked.draws (turns_by asked seen.history)), length-range_with_len 0 (sizes_in asked).attempts)
 
   -- ---- what tells of it fits its files
 
@@ -68,9 +68,9 @@ module _ (asked : Asked) (seen : Seen) (last : List ℕ) (failures : List Verdic
 
     pub ended_fits : (o : Outcome) → Ended o → FitFiles (sizes_in asked).workers seen.trace seen.history
     ended_fits (outcome.Shuffled a) e =
-        front_fits (sizes_in asked) asked.draws (stored (sizes_in asked) seen) seen.trace seen.history planned (few_stored a e.outcome) (stored_front a e.outcome) e.outcome.history
-    ended_fits outcome.Overflow e = fits_by (whole seen.trace (trace (sizes_in asked) asked.draws (turns_by asked seen.history)) e.outcome.whole) e.outcome.history
-    ended_fits (outcome.DeviceFault number) e = fits_by e.outcome.cut.front e.outcome.cut.history
-    ended_fits (outcome.Tampered number) e = fits_by e.outcome.cut.front e.outcome.cut.history
+        front_fits (sizes_in asked) asked.draws (stored (sizes_in asked) seen) seen.trace seen.history planned (few_stored a e.run.outcome) (stored_front a e.run.outcome) e.run.outcome.history
+    ended_fits outcome.Overflow e = fits_by (whole seen.trace (trace (sizes_in asked) asked.draws (turns_by asked seen.history)) e.run.outcome.whole) e.run.outcome.history
+    ended_fits (outcome.DeviceFault number) e = fits_by e.run.outcome.cut.front e.run.outcome.cut.history
+    ended_fits (outcome.Tampered number) e = fits_by e.run.outcome.cut.front e.run.outcome.cut.history
     ended_fits outcome.BatchFailed e =
-        fits_by (load-front (sizes_in asked) asked.draws (turns_by asked seen.history) (length seen.trace) seen.trace e.outcome.there e.outcome.written) e.outcome.history
+        fits_by (load-front (sizes_in asked) asked.draws (turns_by asked seen.history) (length seen.trace) seen.trace e.run.outcome.there e.run.outcome.written) e.run.outcome.history

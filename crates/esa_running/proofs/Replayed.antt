@@ -10,8 +10,8 @@ use Rattle.esa_params.specs.Sizes.{Sizes}
 use Rattle.esa_spec.specs.Draws.{Draw}
 use Rattle.esa_spec.specs.Traces.{all_failed, good_attempt, trace}
 use Rattle.esa_spec.specs.declared.event.Verdict.{Verdict}
-use Rattle.esa_running.specs.Run.{Asked}
-use Rattle.esa_running.specs.Wanted.{sizes_in, turns_by}
+use Rattle.esa_taking.specs.Run.{Asked}
+use Rattle.esa_taking.specs.Wanted.{sizes_in, turns_by}
 use Rattle.esa_running.proofs.HandedIn.{handed-failed, handed-good, handed-trace, handed-trace-failed}
 use Rattle.esa_running.proofs.Turned.{handed_in_are, stored_are}
 

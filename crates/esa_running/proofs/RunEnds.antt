@@ -19,10 +19,10 @@ use Rattle.esa_shuffle.specs.Runs.{IsShuffled, seen_of}
 use Rattle.esa_running.specs.declared.purpose.Purpose.{Purpose}
 use Rattle.esa_running.specs.ComingOut.{IsMadeOf}
 use Rattle.esa_running.specs.Forwarding.{Forwards, BreaksOff}
-use Rattle.esa_running.specs.Run.{Asked}
+use Rattle.esa_taking.specs.Run.{Asked}
 use Rattle.esa_running.specs.RunOwes.{fault_status, records_owed, HasShuffled, HasSucceeded, HasEnded}
 use Rattle.esa_running.specs.RunWork.{FitFiles, success_work}
-use Rattle.esa_running.specs.Wanted.{sizes_in, turns_by, block_keys, drop_key}
+use Rattle.esa_taking.specs.Wanted.{sizes_in, turns_by, block_keys, drop_key}
 use Rattle.esa_running.proofs.ComingOut.{of_batch}
 use Rattle.esa_running.proofs.Fitting.{front_fits}
 use Rattle.esa_running.proofs.Shuffled.{shuffled_succeeds, EndsAt, shuffled_fails}
@@ -60,8 +60,8 @@ module _ {V : Type 0} (told : V → Option (List (List ℕ))) (faults : V → �
   broken {T} fault breaks = shuffled_fails told faults (sizes_in asked) asked.draws (turns_by asked history) device batch now history a old new s T (block_keys asked) fault breaks
 
   owed : (purpose : Purpose) (given : List ℕ) (fault : VaultFault) → Broken fault → HasEnded purpose told faults asked given seen new (failed_work (fault_status fault) (records_owed asked seen))
-  owed purpose given (Device number) ends = inr (inr (inl (record { number = number; ends = ends; owed = refl })))
-  owed purpose given (Tampered number) ends = inr (inr (inr (inl (record { number = number; ends = ends; owed = refl }))))
+  owed purpose given (Device number) ends = inr (inr (inl (record { number = number; ends = ends.end; turns = λ by. ends.turns; owed = refl })))
+  owed purpose given (Tampered number) ends = inr (inr (inr (inl (record { number = number; ends = ends.end; turns = λ by. ends.turns; owed = refl }))))
 
   pub broken_off : {T : Type 0} (purpose : Purpose) (given : List ℕ) (fault : VaultFault) → BreaksOff {V = V} {T = T} told faults asked a old new (Err fault)
       → HasEnded purpose told faults asked given seen new (failed_work (fault_status fault) (records_owed asked seen))
@@ -77,8 +77,8 @@ module _ {V : Type 0} (told : V → Option (List (List ℕ))) (faults : V → �
     success_fits envelopes f = fits (whole new.trace (trace (sizes_in asked) asked.draws (turns_by asked history)) (succeeds envelopes f).whole)
 
     broken_front : (fault : VaultFault) → Broken fault → Begins new.trace (trace (sizes_in asked) asked.draws (turns_by asked history))
-    broken_front (Device number) ends = ends.cut.front
-    broken_front (Tampered number) ends = ends.cut.front
+    broken_front (Device number) ends = ends.end.cut.front
+    broken_front (Tampered number) ends = ends.end.cut.front
 
     pub broken_fits : {T : Type 0} (fault : VaultFault) → BreaksOff {V = V} {T = T} told faults asked a old new (Err fault) → FitFiles (sizes_in asked).workers new.trace history
     broken_fits fault breaks = fits (broken_front fault (broken fault breaks))

@@ -10,10 +10,20 @@ use Rattle.esa_spec.specs.Draws.{Draw}
 use Rattle.esa_spec.specs.Fronts.{Begins, EndsWith}
 use Rattle.esa_spec.specs.Traces.{good_attempt, read_output, scan, scans, shuffle_trace, trace}
 use Rattle.esa_ending.specs.Endings.{Succeeds, IsCutAt, DeviceFails, BlockIsTampered}
-use Rattle.esa_ending.specs.Seen.{Seen, Rises, Stays, IsCalm, stored, HasHistory, AreCut, NoTurnBehind}
-use Rattle.esa_ending.proofs.CutLaws.{cut-behind, none-behind, succeeded, cut-at}
+use Rattle.esa_ending.specs.Seen.{Seen, Rises, Stays, IsCalm, stored, HasHistory, HistoryEnds, AreCut}
+use Rattle.esa_ending.proofs.CutLaws.{cut-behind, succeeded, cut-at}
+use Rattle.esa_ending.proofs.HistoryLaws.{ends-behind}
 use Rattle.esa_ending.proofs.FrontLaws.{onward, joined-front, behind, map-front}
 use Rattle.esa_scans.specs.Scans.{reads}
+
+-- a scan ended early, and the stored turns end with its last access
+pub record Fails (p : Sizes) (ds : ℕ → Draw) (hs : List (List ℕ)) (seen : Seen) (number : ℕ) : Type 0 where
+  pub end : DeviceFails p ds hs seen number
+  pub turns : HistoryEnds p (stored p seen) hs end.access
+
+pub record Closed (p : Sizes) (ds : ℕ → Draw) (hs : List (List ℕ)) (seen : Seen) (opens : Slot → ℕ → ℕ → Bool) (number : ℕ) : Type 0 where
+  pub end : BlockIsTampered p ds hs seen opens number
+  pub turns : HistoryEnds p (stored p seen) hs end.access
 
 -- the shuffle succeeded in attempt a: its turns were stored, and it is the good one
 module _ (p : Sizes) (ds : ℕ → Draw) (hs : List (List ℕ)) (seen : Seen) (a : ℕ) (planned : a < p.attempts) (good : good_attempt p ds 0 (stored p seen) ≡ Some a)
@@ -54,11 +64,14 @@ module _ (p : Sizes) (ds : ℕ → Draw) (hs : List (List ℕ)) (seen : Seen) (a
         (subst (λ xs. Begins (shuffled ++ (before ++ reads p a (j + 1))) xs) (sym all) (behind shuffled (before ++ reads p a (j + 1)) (scan p a ++ scan p a) (front before j where_is inside)))
 
     cut : IsCutAt p ds hs seen (read_output p a j)
-    cut = cut-at p ds hs seen (read_output p a j) history (subst (λ xs. AreCut xs hs) (sym turns) (cut-behind hs (a + 1)))
-        (subst (λ xs. NoTurnBehind p xs hs (read_output p a j)) (sym turns) (none-behind p hs (a + 1) (read_output p a j))) last begins
+    cut = cut-at p ds hs seen (read_output p a j) history (subst (λ xs. AreCut xs hs) (sym turns) (cut-behind hs (a + 1))) last begins
 
-    pub scan_fails : Rises seen.device → Stays seen.batch → DeviceFails p ds hs seen (number_of p (at Output j))
-    scan_fails rises stays = record { access = read_output p a j; cut = cut; slot = refl; cause = rises; batch = stays }
+    -- all turns of the attempts up to this one were stored
+    ends : HistoryEnds p (stored p seen) hs (read_output p a j)
+    ends = ends-behind p (stored p seen) hs (read_output p a j) a (refl, refl) turns
 
-    pub scan_tampered : (opens : Slot → ℕ → ℕ → Bool) → opens (at Output j) a (size p j) ≡ false → IsCalm seen → BlockIsTampered p ds hs seen opens (number_of p (at Output j))
-    scan_tampered opens closed calm = record { access = read_output p a j; cut = cut; slot = refl; reads = refl; closed = closed; calm = calm }
+    pub scan_fails : Rises seen.device → Stays seen.batch → Fails p ds hs seen (number_of p (at Output j))
+    scan_fails rises stays = record { end = record { access = read_output p a j; cut = cut; slot = refl; cause = rises; batch = stays }; turns = ends }
+
+    pub scan_tampered : (opens : Slot → ℕ → ℕ → Bool) → opens (at Output j) a (size p j) ≡ false → IsCalm seen → Closed p ds hs seen opens (number_of p (at Output j))
+    scan_tampered opens closed calm = record { end = record { access = read_output p a j; cut = cut; slot = refl; reads = refl; closed = closed; calm = calm }; turns = ends }

@@ -10,11 +10,11 @@ use Rattle.esa_model.specs.Forecast.{made}
 use Rattle.esa_params.specs.Sizes.{Sizes}
 use Rattle.esa_spec.specs.Histories.{lists}
 use Rattle.esa_spec.specs.declared.event.Verdict.{Verdict}
-use Rattle.esa_shuffle.specs.Runs.{EndsRun, IsShuffled, opens_last}
+use Rattle.esa_shuffle.specs.Runs.{EndWithCut, EndsRun, IsShuffled, opens_last}
 use Rattle.esa_shuffling.proofs.Turning.{made_few}
-use Rattle.esa_running.specs.Run.{Asked}
+use Rattle.esa_taking.specs.Run.{Asked}
 use Rattle.esa_running.specs.RunOwes.{EndsShuffle}
-use Rattle.esa_running.specs.Wanted.{sizes_in, turns_by, block_keys, HasFewAttempts}
+use Rattle.esa_taking.specs.Wanted.{sizes_in, turns_by, block_keys, HasFewAttempts}
 
 module _ (asked : Asked) where
   -- those of a crew
@@ -49,14 +49,20 @@ module _ (asked : Asked) where
 
   -- a shuffle with these turns ended as is said of what was asked for
   module _ (p : Sizes) (keys : Keys) (seen : Seen) (last : List ℕ) (failures : List Verdict) (o : Outcome) (plan : p ≡ sizes_in asked) (run : keys ≡ block_keys asked) where
-    ended_as : (hs : List (List ℕ)) → hs ≡ turns_by asked seen.history → EndsRun p asked.draws hs seen (opens_last p keys last) failures o → EndsShuffle asked seen last failures o
+    ended_as : (hs : List (List ℕ)) → hs ≡ turns_by asked seen.history → EndsRun p asked.draws hs seen (opens_last p keys last) failures o
+        → EndsRun (sizes_in asked) asked.draws (turns_by asked seen.history) seen (opens_last (sizes_in asked) (block_keys asked) last) failures o
     ended_as hs turns ends =
         subst (λ (x : Sizes × Keys × List (List ℕ)). EndsRun x.0 asked.draws x.2 seen (opens_last x.0 x.1 last) failures o) (λ i. (plan i, run i, turns i)) ends
 
-    pub ended_by_turns : runs_crew asked.job ≡ false → EndsRun p asked.draws (made p asked.draws asked.turns) seen (opens_last p keys last) failures o → EndsShuffle asked seen last failures o
-    ended_by_turns none ends =
-        ended_as (made p asked.draws asked.turns) (handed_in_are p seen.history plan none) ends
+    pub ended_by_turns : runs_crew asked.job ≡ false → EndsRun p asked.draws (made p asked.draws asked.turns) seen (opens_last p keys last) failures o
+        → EndWithCut p (lists p.workers seen.history) (made p asked.draws asked.turns) seen.trace o → EndsShuffle asked seen last failures o
+    ended_by_turns none ends cut = record {
+      run = ended_as (made p asked.draws asked.turns) (handed_in_are p seen.history plan none) ends;
+      cut = λ by. subst (λ (x : Sizes × List (List ℕ)). EndWithCut x.0 (lists x.0.workers seen.history) x.1 seen.trace o) (λ i. (plan i, handed_in_are p seen.history plan none i)) cut;
+    }
 
     pub ended_by_crew : runs_crew asked.job ≡ true → EndsRun p asked.draws (lists p.workers seen.history) seen (opens_last p keys last) failures o → EndsShuffle asked seen last failures o
-    ended_by_crew crew ends =
-        ended_as (lists p.workers seen.history) (stored_are p seen.history plan crew) ends
+    ended_by_crew crew ends = record {
+      run = ended_as (lists p.workers seen.history) (stored_are p seen.history plan crew) ends;
+      cut = λ by. let clash : true ≡ false = sym crew ∙ by in absurd (cc clash);
+    }

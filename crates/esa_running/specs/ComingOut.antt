@@ -3,18 +3,20 @@ use Rattle.std.specs.Prelude.{◌≡◌, ◌≢◌, ℕ, ◌+◌, ◌*◌, All, 
 use Rattle.esa_analyser.specs.Opened.{database_of}
 use Rattle.esa_batcher.specs.InFile.{records_of}
 use Rattle.esa_crowds.specs.Kept.{forward}
-use Rattle.esa_device.specs.Logs.{Carried, IsFaithful}
+use Rattle.esa_device.specs.Logs.{Carried, IsFaithful, NoneFailed, OnlyLastFailed}
 use Rattle.esa_ending.specs.Endings.{ComesOut}
 use Rattle.esa_ending.specs.Seen.{turns_in as turns_at}
 use Rattle.esa_envelope.specs.declared.keys.Keys.{Keys}
-use Rattle.esa_floor.specs.Written.{EachButLast, GaveWhatOpens, NoWriteFailed, OnlyLastFailed, TookItsBlock}
+use Rattle.esa_floor.specs.Written.{EachButLast, GaveWhatOpens, TookItsBlock}
 use Rattle.esa_floor.specs.declared.turn.Outcome.{Outcome}
 use Rattle.esa_floor.specs.declared.turn.Outcome.TheVariants as outcome
 use Rattle.esa_header.specs.Header.{header_length}
 use Rattle.esa_job.specs.declared.field.JobField.TheVariants as field
 use Rattle.esa_lists.specs.Files.{Files}
 use Rattle.esa_outside.specs.Heard.{Event, part_of}
+use Rattle.esa_parallel.specs.Crews.{uncut_of}
 use Rattle.esa_params.specs.Form.{envelope_length}
+use Rattle.esa_refusal.specs.declared.status.DeviceAt.TheVariants.{Slot as AtSlot}
 use Rattle.esa_refusal.specs.declared.status.Status.{Status}
 use Rattle.esa_refusal.specs.declared.status.Status.TheVariants as status
 use Rattle.esa_report.specs.declared.item.Item.{Item}
@@ -25,8 +27,9 @@ use Rattle.esa_command.specs.Stand.{Stand}
 use Rattle.esa_command.specs.Taking.{name_of}
 use Rattle.esa_shuffle.specs.Loading.{IsGiven}
 use Rattle.esa_shuffle.specs.Records.{IsShuffledFrom, IsWrittenFrom, record_at, records_given}
-use Rattle.esa_running.specs.Run.{Asked}
-use Rattle.esa_running.specs.Wanted.{sizes_in, turns_by, block_keys, outer_keys, drop_key}
+use Rattle.esa_running.specs.ByCrew.{IsByCrew}
+use Rattle.esa_taking.specs.Run.{Asked}
+use Rattle.esa_taking.specs.Wanted.{sizes_in, turns_by, block_keys, outer_keys, drop_key}
 
 -- ---- what the load was given
 
@@ -61,10 +64,10 @@ batch_record asked given = record_at (sizes_in asked) (outer_keys asked) given
 abbrev pub batch_records : Asked → (given : List ℕ) → List Item
 batch_records asked given = records_given (sizes_in asked) (outer_keys asked) given
 
--- which writes failed, by the status that is owed: none, or the last access alone, where the device failed
-abbrev pub WritesBy : Status → List Carried → Type 0
-WritesBy (status.DeviceFault at) log = OnlyLastFailed log
-WritesBy owed log = NoWriteFailed log
+-- which accesses failed, by the status that is owed: none, or the last one alone, where the device failed at a slot
+abbrev pub FailedByStatus : Status → List Carried → Type 0
+FailedByStatus (status.DeviceFault (AtSlot number)) log = OnlyLastFailed log
+FailedByStatus owed log = NoneFailed log
 
 -- which reads gave blocks that open, by the status that is owed: all, but the last access, where the run stopped at it
 abbrev pub ReadsBy : (Carried → Type 0) → Status → List Carried → Type 0
@@ -78,7 +81,7 @@ ReadsBy Fact owed log = All Fact log
 pub record Became (asked : Asked) (given history : List ℕ) (log : List Carried) (owed : Status) : Type 0 where
   pub took : IsFaithful (sizes_in asked) log
       → All (TookItsBlock (sizes_in asked) (block_keys asked) asked.draws (batch_record asked given) (turns_at (lists (sizes_in asked).workers history))) log
-  pub failed : WritesBy owed log
+  pub failed : FailedByStatus owed log
   pub gave : ReadsBy (GaveWhatOpens (sizes_in asked) (block_keys asked) asked.draws (turns_at (lists (sizes_in asked).workers history))) owed log
   -- whatever the device did, the input was written from the bytes that the load was given, and it was given no others
   pub written : IsWrittenFrom (sizes_in asked) (block_keys asked) given log
@@ -105,9 +108,10 @@ pub record AreOfBatch (asked : Asked) (attempt : ℕ) (history given : List ℕ)
 -- ---- before the output is scanned
 
 -- a shuffle with this outcome was made of the bytes that its load was given: whole envelopes, and all of the batch where it
--- succeeded
+-- succeeded. Where the job asks for a crew, it was made by one
 pub record IsMadeOf (asked : Asked) (history : List ℕ) (log : List Carried) (o : Outcome) (given : List ℕ) : Type 0 where
   pub count : ℕ
   pub whole : length given ≡ envelope_length asked.batch.form * count
   pub all : (a : ℕ) → o ≡ outcome.Shuffled a → count ≡ asked.batch.count
   pub shuffled : IsShuffledFrom (sizes_in asked) asked.draws (turns_by asked history) (outer_keys asked) (block_keys asked) history log o given
+  pub crew : IsByCrew asked history (uncut_of o)

@@ -10,8 +10,8 @@ use Rattle.esa_scans.specs.Forwarded.{HasForwarded}
 use Rattle.esa_scans.specs.Scans.{FailsAt}
 use Rattle.esa_vault.specs.declared.fault.VaultFault.{VaultFault}
 use Rattle.esa_command.specs.Asked.{number_of}
-use Rattle.esa_running.specs.Run.{Asked}
-use Rattle.esa_running.specs.Wanted.{sizes_in, block_keys, drop_key}
+use Rattle.esa_taking.specs.Run.{Asked}
+use Rattle.esa_taking.specs.Wanted.{sizes_in, block_keys, drop_key}
 
 -- Both scans of the output were made, what they were given opens, and these inner envelopes are forwarded of it.
 pub record Forwards {V : Type 0} (told : V → Option (List (List ℕ))) (faults : V → ℕ) (asked : Asked) (attempt : ℕ) (old new : Recorded V) (envelopes : List (List ℕ)) : Type 0 where

@@ -1,11 +1,8 @@
+pub mod ByCrew
 pub mod ComingOut
 pub mod Forwarding
 pub mod Outlets
 pub mod Purpose
-pub mod Run
 pub mod RunEnded
 pub mod RunOwes
-pub mod RunTaken
 pub mod RunWork
-pub mod StoredTurns
-pub mod Wanted

@@ -8,8 +8,9 @@ use Rattle.esa_command.specs.Settled.{Settles}
 use Rattle.esa_command.specs.Stand.{Stand}
 use Rattle.esa_command.specs.Work.{Work}
 use Rattle.esa_running.specs.declared.purpose.Purpose.{Purpose}
+use Rattle.esa_running.specs.ByCrew.{IsByCrew, uncut_by}
 use Rattle.esa_running.specs.ComingOut.{Became}
-use Rattle.esa_running.specs.Run.{Asked}
+use Rattle.esa_taking.specs.Run.{Asked}
 use Rattle.esa_running.specs.RunOwes.{HasEnded, RunOwes}
 
 -- the history: none where the load was not begun
@@ -27,6 +28,7 @@ pub record HasWorked {V : Type 0} (purpose : Purpose) (told : V → Option (List
   pub work : Work
   pub ends : HasEnded purpose told faults asked given seen recorder work
   pub became : Became asked given seen.history recorder.log work.ended
+  pub crew : IsByCrew asked seen.history (uncut_by work.ended)
   pub settles : Settles work cabinet cabinet_now printer printer_now end
 
 -- what was asked for was acted on, and the work that is owed then is done

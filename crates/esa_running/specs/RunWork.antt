@@ -17,9 +17,9 @@ use Rattle.esa_command.specs.Work.{Work, Write}
 use Rattle.esa_shuffling.specs.Plan.{trace_writes}
 use Rattle.esa_running.specs.declared.purpose.Purpose.{Purpose}
 use Rattle.esa_running.specs.declared.purpose.Purpose.TheVariants.{Count, HandOn}
-use Rattle.esa_running.specs.Run.{Asked}
-use Rattle.esa_running.specs.StoredTurns.{IsHistory}
-use Rattle.esa_running.specs.Wanted.{sizes_in, inner_keys}
+use Rattle.esa_taking.specs.Run.{Asked}
+use Rattle.esa_taking.specs.StoredTurns.{IsHistory}
+use Rattle.esa_taking.specs.Wanted.{sizes_in, inner_keys}
 
 -- ---- files
 

@@ -11,15 +11,15 @@ ghost use Rattle.esa_command.specs.Doing.{failed_work};
 ghost use Rattle.esa_command.specs.Settled.{Settles};
 ghost use Rattle.esa_command.specs.Stand.{stand};
 ghost use Rattle.esa_command.specs.Work.{Work};
+ghost use Rattle.esa_running.specs.ByCrew.{IsByCrew, uncut_by};
 ghost use Rattle.esa_running.specs.ComingOut.{Became, IsMadeOf};
 ghost use Rattle.esa_running.specs.Outlets.{purpose_of, HasRoom};
 ghost use Rattle.esa_running.specs.Purpose.{command_for};
 ghost use Rattle.esa_running.specs.RunOwes.{EndsShuffle, HasEnded, where_made};
-ghost use Rattle.esa_running.specs.RunTaken.{IsTaken, run_taken};
+ghost use Rattle.esa_taking.specs.RunTaken.{IsTaken, run_taken};
 ghost use Rattle.esa_running.specs.RunWork.{FitFiles, records_of};
-ghost use Rattle.esa_running.specs.Wanted.{sizes_in};
+ghost use Rattle.esa_taking.specs.Wanted.{sizes_in};
 
-use crate::input::RunInput;
 use crate::outputs::work_failed;
 use crate::working::{Store, work_shuffled};
 use esa_command::settle_failed;
@@ -28,6 +28,7 @@ use esa_floor::Outcome;
 use esa_outside::{Cabinet, Printer, Role};
 use esa_params::Plan;
 use esa_refusal::{DeviceAt, End, Failures, Status};
+use esa_taking::RunInput;
 
 /// Does what is left where the batch couldn't be read in the load. Where no access was made, nothing is written.
 fn work_unloaded<K: Cabinet, P: Printer, V: Device>(
@@ -86,6 +87,7 @@ pub(crate) fn work_ended<K: Cabinet, P: Printer, V: Device>(
         → (work : Work) × HasEnded (purpose_of store.outlet) V.told V.faults (run_taken input.now) given
         (seen_of V.faults device batch recorder.new history.now (K.faults cabinet.old)) recorder.new work
         × Became (run_taken input.now) given history.now recorder.new.log work.ended
+        × IsByCrew (run_taken input.now) history.now (uncut_by work.ended)
         × Settles work (stand K.told K.faults K.heard cabinet.old) (stand K.told K.faults K.heard cabinet.new)
         (stand P.told P.faults P.heard printer.old) (stand P.told P.faults P.heard printer.new) result }
     ensures plan { recorder.new.plan ≡ recorder.old.plan }

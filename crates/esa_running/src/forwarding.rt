@@ -3,12 +3,12 @@
 ghost use Rattle.std.specs.Prelude.{◌≡◌, ◌*◌, ◌≤◌, ℕ, List, Some, OnOk, OnErr};
 ghost use Rattle.esa_running.specs.Forwarding.{AreJoined, Forwards, BreaksOff};
 ghost use Rattle.esa_running.specs.RunOwes.{fault_status};
-ghost use Rattle.esa_running.specs.RunTaken.{IsTaken, run_taken};
+ghost use Rattle.esa_taking.specs.RunTaken.{IsTaken, run_taken};
 
-use crate::input::RunInput;
 use esa_device::{Device, Recorder};
 use esa_refusal::{DeviceAt, Status};
 use esa_scans::{Tables, threshold};
+use esa_taking::RunInput;
 use esa_vault::VaultFault;
 
 /// Scans the output of an attempt twice, and forwards what is kept of it. A scan ends early only where the device failed or

@@ -9,8 +9,8 @@ ghost use Rattle.esa_params.specs.Sizes.{Sizes};
 ghost use Rattle.esa_spec.specs.Draws.{Draw};
 ghost use Rattle.esa_spec.specs.Traces.{all_failed, good_attempt, trace};
 ghost use Rattle.esa_spec.specs.declared.event.Verdict.{Verdict};
-ghost use Rattle.esa_running.specs.Run.{Asked};
-ghost use Rattle.esa_running.specs.Wanted.{sizes_in, turns_by};
+ghost use Rattle.esa_taking.specs.Run.{Asked};
+ghost use Rattle.esa_taking.specs.Wanted.{sizes_in, turns_by};
 
 /// The turns of a run, as a crew has stored them, are handed in to another run of the same sizes and draws: completed, they
 /// decide the same, in the same attempt, with the same accesses and the same order of the records. What a crew's attempt has

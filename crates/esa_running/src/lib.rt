@@ -4,21 +4,16 @@
 mod ending;
 mod forwarding;
 mod handed_in;
-mod input;
-mod keys;
 mod outlet;
 mod outputs;
 mod purpose;
 mod run_command;
 mod shuffle_crew;
 mod shuffle_mode;
-mod stored_turns;
-mod taking;
 mod threaded;
 mod working;
 
 pub use handed_in::{crews_are_replayed, turns_can_be_handed_in_again};
-pub use input::{RunInput, take_run};
 pub use purpose::Purpose;
 pub use run_command::{Ended, run};
 pub use threaded::run_threaded;

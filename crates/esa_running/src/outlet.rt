@@ -10,11 +10,10 @@ ghost use Rattle.esa_running.specs.declared.purpose.Purpose.TheVariants.{Count, 
 ghost use Rattle.esa_running.specs.Forwarding.{AreJoined};
 ghost use Rattle.esa_running.specs.Outlets.{purpose_of, HasRoom};
 ghost use Rattle.esa_running.specs.Purpose.{command_for};
-ghost use Rattle.esa_running.specs.RunTaken.{IsTaken, run_taken};
+ghost use Rattle.esa_taking.specs.RunTaken.{IsTaken, run_taken};
 ghost use Rattle.esa_running.specs.RunWork.{FitFiles, success_work};
-ghost use Rattle.esa_running.specs.Wanted.{sizes_in};
+ghost use Rattle.esa_taking.specs.Wanted.{sizes_in};
 
-use crate::input::RunInput;
 use crate::outputs::{handed_on_line, run_line, work_saved};
 use crate::purpose::Purpose;
 use esa_analyser::Analysis;
@@ -22,6 +21,7 @@ use esa_device::{Device, Recorder};
 use esa_outside::{Cabinet, Printer};
 use esa_params::{Form, Plan};
 use esa_refusal::End;
+use esa_taking::RunInput;
 use esa_threshold::write_forward;
 use std::alloc::{AllocError, Global};
 

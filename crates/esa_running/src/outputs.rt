@@ -10,19 +10,18 @@ ghost use Rattle.esa_command.specs.Settled.{Settles};
 ghost use Rattle.esa_command.specs.Stand.{Stand, stand};
 ghost use Rattle.esa_command.specs.Work.{Write};
 ghost use Rattle.esa_shuffling.specs.Plan.{trace_writes};
-ghost use Rattle.esa_running.specs.RunTaken.{IsTaken, run_taken};
+ghost use Rattle.esa_taking.specs.RunTaken.{IsTaken, run_taken};
 ghost use Rattle.esa_running.specs.RunWork.{turns_writes, records_of, FitFiles, shuffled_text, holds_text, made_text, well_work};
-ghost use Rattle.esa_running.specs.StoredTurns.{IsHistory};
-ghost use Rattle.esa_running.specs.Wanted.{sizes_in};
+ghost use Rattle.esa_taking.specs.StoredTurns.{IsHistory};
+ghost use Rattle.esa_taking.specs.Wanted.{sizes_in};
 
-use crate::input::RunInput;
-use crate::stored_turns::write_turns;
 use esa_analyser::Analysis;
 use esa_command::{print_line, settle, settle_failed};
 use esa_device::{Device, Recorder};
 use esa_outside::{Cabinet, Failed, Printer};
 use esa_params::Access;
 use esa_refusal::{End, Line, Sink, Status};
+use esa_taking::{RunInput, write_turns};
 use esa_trace::write_trace;
 
 /// Writes the accesses of a shuffle, where a file is named for them.

@@ -16,14 +16,13 @@ ghost use Rattle.esa_command.specs.Taking.{name_of};
 ghost use Rattle.esa_running.specs.ComingOut.{batch_told, batch_part, IsMadeOf};
 ghost use Rattle.esa_running.specs.Outlets.{purpose_of, HasRoom};
 ghost use Rattle.esa_running.specs.Purpose.{command_for};
-ghost use Rattle.esa_running.specs.Run.{IsInside, run_steps};
+ghost use Rattle.esa_taking.specs.Run.{IsInside, run_steps};
 ghost use Rattle.esa_running.specs.RunEnded.{HasActed, HasWorked, IsIdle, history_in};
 ghost use Rattle.esa_running.specs.RunOwes.{EndsShuffle, IsRecorded, RunOwes};
-ghost use Rattle.esa_running.specs.RunTaken.{IsTaken, run_taken};
-ghost use Rattle.esa_running.specs.Wanted.{block_keys, outer_keys, turns_by, HasFewAttempts};
+ghost use Rattle.esa_taking.specs.RunTaken.{IsTaken, run_taken};
+ghost use Rattle.esa_taking.specs.Wanted.{block_keys, outer_keys, turns_by, HasFewAttempts};
 
 use crate::ending::work_ended;
-use crate::input::{RunInput, take_run};
 use crate::purpose::Purpose;
 use crate::shuffle_mode::shuffle_by_turns;
 use crate::working::{Store, store_for};
@@ -35,6 +34,7 @@ use esa_job::JobField;
 use esa_outside::{Cabinet, Printer};
 use esa_refusal::{DeviceAt, End, Status};
 use esa_shuffle::{NoRun, Ran};
+use esa_taking::{RunInput, take_run};
 use std::alloc::Global;
 
 /// How a shuffle ended, and what it leaves beside its files and lines.

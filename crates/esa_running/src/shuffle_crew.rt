@@ -3,21 +3,23 @@
 ghost use Rattle.std.specs.Prelude.{◌≡◌, ◌≢◌, ◌∷◌, ◌+◌, ◌≤◌, [], true, Some, IfOk, IfErr, length};
 ghost use Rattle.esa_job.specs.Refusal.{runs_crew};
 ghost use Rattle.esa_job.specs.Seen.{request_of};
+ghost use Rattle.esa_parallel.specs.Crews.{AllAreDone, AllTookPart};
 ghost use Rattle.esa_params.specs.Form.{envelope_length};
 ghost use Rattle.esa_params.specs.Slots.{greatest_trace};
 ghost use Rattle.esa_shuffle.specs.Loading.{HasGiven};
 ghost use Rattle.esa_shuffle.specs.Records.{IsShuffledFrom};
 ghost use Rattle.esa_shuffle.specs.Runs.{seen_of};
 ghost use Rattle.esa_shuffling.specs.Drawn.{draws_of};
+ghost use Rattle.esa_spec.specs.Histories.{lists};
 ghost use Rattle.esa_running.specs.RunOwes.{EndsShuffle};
-ghost use Rattle.esa_running.specs.RunTaken.{IsTaken, run_taken};
-ghost use Rattle.esa_running.specs.Wanted.{block_keys, outer_keys, turns_by, HasFewAttempts};
+ghost use Rattle.esa_taking.specs.RunTaken.{IsTaken, run_taken};
+ghost use Rattle.esa_taking.specs.Wanted.{block_keys, outer_keys, turns_by, HasFewAttempts};
 
-use crate::input::RunInput;
 use esa_device::{Device, Recorder};
 use esa_outside::Records;
 use esa_parallel::run_crew;
 use esa_shuffle::{NoRun, Ran};
+use esa_taking::RunInput;
 use std::alloc::Global;
 use std::sync::Wait;
 use std::thread::Threads;
@@ -40,6 +42,8 @@ pub(crate) fn shuffle_by_crew<R: Threads + Wait + Sync, V: Device + Send + Drop,
     ensures ends { IfOk result (λ ran. EndsShuffle (run_taken input.now)
         (seen_of V.faults (V.faults recorder.device) (B.faults batch.old) ran.recorder ran.history (B.faults batch.new)) ran.recorder.last ran.failures ran.outcome) }
     ensures few { IfOk result (λ ran. HasFewAttempts (run_taken input.now) ran.history) }
+    ensures took_part { IfOk result (λ ran. AllTookPart input.now.plan (lists input.now.plan.workers ran.history)) }
+    ensures done { IfOk result (λ ran. AllAreDone input.now.plan (draws_of input.now.coins) (lists input.now.plan.workers ran.history) ran.outcome) }
     ensures given { IfOk result (λ ran. let asked = run_taken input.now in
         HasGiven input.now.plan (B.told batch.old) (B.part (B.grounds batch.old)) (B.heard batch.old) (B.heard batch.new) (ran.history ≢ input.now.plan.workers ∷ [])
         (IsShuffledFrom input.now.plan (draws_of input.now.coins) (turns_by asked ran.history) (outer_keys asked) (block_keys asked) ran.history ran.recorder.log ran.outcome)) }

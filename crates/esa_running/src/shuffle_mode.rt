@@ -10,13 +10,13 @@ ghost use Rattle.esa_shuffle.specs.Records.{IsShuffledFrom};
 ghost use Rattle.esa_shuffle.specs.Runs.{seen_of};
 ghost use Rattle.esa_shuffling.specs.Drawn.{draws_of};
 ghost use Rattle.esa_running.specs.RunOwes.{EndsShuffle};
-ghost use Rattle.esa_running.specs.RunTaken.{IsTaken, run_taken};
-ghost use Rattle.esa_running.specs.Wanted.{block_keys, outer_keys, turns_by, HasFewAttempts};
+ghost use Rattle.esa_taking.specs.RunTaken.{IsTaken, run_taken};
+ghost use Rattle.esa_taking.specs.Wanted.{block_keys, outer_keys, turns_by, HasFewAttempts};
 
-use crate::input::RunInput;
 use esa_device::{Device, Recorder};
 use esa_outside::Records;
 use esa_shuffle::{NoRun, Ran, run_turns};
+use esa_taking::RunInput;
 use std::alloc::Global;
 
 /// Shuffles the batch of a job with the turns that are handed in, on one thread. Where there is no memory for that nothing was

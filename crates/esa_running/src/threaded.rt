@@ -4,6 +4,7 @@ ghost use Rattle.std.specs.Prelude.{◌≡◌, ◌≢◌, ◌∷◌, ◌+◌, �
 ghost use Rattle.esa_header.specs.Header.{header_length};
 ghost use Rattle.esa_job.specs.Refusal.{runs_crew};
 ghost use Rattle.esa_job.specs.Seen.{request_of};
+ghost use Rattle.esa_parallel.specs.Crews.{AllAreDone, AllTookPart};
 ghost use Rattle.esa_params.specs.Form.{envelope_length};
 ghost use Rattle.esa_params.specs.Slots.{greatest_trace};
 ghost use Rattle.esa_shuffle.specs.Loading.{HasGiven};
@@ -13,16 +14,16 @@ ghost use Rattle.esa_shuffling.specs.Drawn.{draws_of};
 ghost use Rattle.esa_command.specs.Ends.{EndsBy};
 ghost use Rattle.esa_command.specs.Stand.{stand};
 ghost use Rattle.esa_command.specs.Taking.{name_of};
+ghost use Rattle.esa_spec.specs.Histories.{lists};
 ghost use Rattle.esa_running.specs.ComingOut.{batch_told, batch_part};
 ghost use Rattle.esa_running.specs.Outlets.{purpose_of, HasRoom};
 ghost use Rattle.esa_running.specs.Purpose.{command_for};
-ghost use Rattle.esa_running.specs.Run.{IsInside, run_steps};
+ghost use Rattle.esa_taking.specs.Run.{IsInside, run_steps};
 ghost use Rattle.esa_running.specs.RunEnded.{HasActed, IsIdle, history_in};
 ghost use Rattle.esa_running.specs.RunOwes.{EndsShuffle, RunOwes};
-ghost use Rattle.esa_running.specs.RunTaken.{IsTaken, run_taken};
-ghost use Rattle.esa_running.specs.Wanted.{block_keys, outer_keys, turns_by, HasFewAttempts};
+ghost use Rattle.esa_taking.specs.RunTaken.{IsTaken, run_taken};
+ghost use Rattle.esa_taking.specs.Wanted.{block_keys, outer_keys, turns_by, HasFewAttempts};
 
-use crate::input::{RunInput, take_run};
 use crate::purpose::Purpose;
 use crate::run_command::{Ended, act, end_ran};
 use crate::shuffle_crew::shuffle_by_crew;
@@ -34,6 +35,7 @@ use esa_job::{JobField, Mode};
 use esa_outside::{Cabinet, Printer};
 use esa_refusal::{DeviceAt, End, Status};
 use esa_shuffle::{NoRun, Ran};
+use esa_taking::{RunInput, take_run};
 use std::alloc::Global;
 use std::sync::Wait;
 use std::thread::Threads;
@@ -58,6 +60,8 @@ fn crew_records<K: Cabinet, R: Threads + Wait + Sync, V: Device + Send + Drop>(
     ensures ends { IfOk result (λ ran. EndsShuffle (run_taken input.now)
         (seen_of V.faults (V.faults recorder.device) (K.faults batch.old.cabinet.now) ran.recorder ran.history (K.faults batch.new.cabinet.now)) ran.recorder.last ran.failures ran.outcome) }
     ensures few { IfOk result (λ ran. HasFewAttempts (run_taken input.now) ran.history) }
+    ensures took_part { IfOk result (λ ran. AllTookPart input.now.plan (lists input.now.plan.workers ran.history)) }
+    ensures done { IfOk result (λ ran. AllAreDone input.now.plan (draws_of input.now.coins) (lists input.now.plan.workers ran.history) ran.outcome) }
 
     // What the load was given are records of the batch, and the shuffle is made of them.
     ensures given { IfOk result (λ ran. let asked = run_taken input.now in
@@ -91,6 +95,8 @@ fn crew_batch<K: Cabinet, R: Threads + Wait + Sync, V: Device + Send + Drop>(
     ensures ends { IfOk result (λ ran. EndsShuffle (run_taken input.now)
         (seen_of V.faults (V.faults recorder.device) (K.faults cabinet.old) ran.recorder ran.history (K.faults cabinet.new)) ran.recorder.last ran.failures ran.outcome) }
     ensures few { IfOk result (λ ran. HasFewAttempts (run_taken input.now) ran.history) }
+    ensures took_part { IfOk result (λ ran. AllTookPart input.now.plan (lists input.now.plan.workers ran.history)) }
+    ensures done { IfOk result (λ ran. AllAreDone input.now.plan (draws_of input.now.coins) (lists input.now.plan.workers ran.history) ran.outcome) }
     ensures given { IfOk result (λ ran. let asked = run_taken input.now in
         HasGiven input.now.plan (batch_told asked (K.told cabinet.old)) (batch_part asked) (K.heard cabinet.old) (K.heard cabinet.new)
         (ran.history ≢ input.now.plan.workers ∷ []) (IsShuffledFrom input.now.plan (draws_of input.now.coins) (turns_by asked ran.history)

@@ -6,16 +6,16 @@ ghost use Rattle.esa_job.specs.Seen.{request_of};
 ghost use Rattle.esa_command.specs.Settled.{Settles};
 ghost use Rattle.esa_command.specs.Stand.{stand};
 ghost use Rattle.esa_command.specs.Work.{Work};
+ghost use Rattle.esa_running.specs.ByCrew.{IsByCrew, uncut_by};
 ghost use Rattle.esa_running.specs.ComingOut.{Became, IsMadeOf};
 ghost use Rattle.esa_running.specs.Outlets.{purpose_of, HasRoom};
 ghost use Rattle.esa_running.specs.Purpose.{command_for};
 ghost use Rattle.esa_running.specs.RunOwes.{HasEnded};
-ghost use Rattle.esa_running.specs.RunTaken.{IsTaken, run_taken};
-ghost use Rattle.esa_running.specs.Wanted.{sizes_in, turns_by};
+ghost use Rattle.esa_taking.specs.RunTaken.{IsTaken, run_taken};
+ghost use Rattle.esa_taking.specs.Wanted.{sizes_in, turns_by};
 ghost use Rattle.esa_shuffle.specs.Runs.{IsShuffled, seen_of};
 
 use crate::forwarding::{forward_output, status_of_fault};
-use crate::input::RunInput;
 use crate::outlet::{Outlet, Success, outlet_for, work_forwarded};
 use crate::outputs::work_failed;
 use crate::purpose::Purpose;
@@ -24,6 +24,7 @@ use esa_outside::{Cabinet, Printer};
 use esa_params::Plan;
 use esa_refusal::End;
 use esa_scans::Tables;
+use esa_taking::RunInput;
 use std::alloc::{AllocError, Global};
 
 /// All memory that is taken for the output of a shuffle.
@@ -70,6 +71,7 @@ pub(crate) fn work_shuffled<K: Cabinet, P: Printer, V: Device>(
         → (work : Work) × HasEnded (purpose_of store.outlet) V.told V.faults (run_taken input.now) given
         (seen_of V.faults device batch recorder.new history.now (K.faults cabinet.old)) recorder.new work
         × Became (run_taken input.now) given history.now recorder.new.log work.ended
+        × IsByCrew (run_taken input.now) history.now (uncut_by work.ended)
         × Settles work (stand K.told K.faults K.heard cabinet.old) (stand K.told K.faults K.heard cabinet.new)
         (stand P.told P.faults P.heard printer.old) (stand P.told P.faults P.heard printer.new) result }
     ensures plan { recorder.new.plan ≡ recorder.old.plan }

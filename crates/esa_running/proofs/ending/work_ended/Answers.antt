@@ -2,8 +2,8 @@ use Rattle.std.proofs.Common.{◌+◌, ◌*◌, ◌≤◌, length, inl, inr, sym
 use Rattle.esa_params.specs.Slots.{greatest_trace}
 use Rattle.esa_shuffle.specs.Runs.{seen_of}
 use Rattle.esa_running.specs.ComingOut.{IsMadeOf}
-use Rattle.esa_running.specs.RunTaken.{run_taken}
-use Rattle.esa_running.specs.Wanted.{sizes_in, turns_by}
+use Rattle.esa_taking.specs.RunTaken.{run_taken}
+use Rattle.esa_taking.specs.Wanted.{sizes_in, turns_by}
 use Rattle.esa_running.proofs.ComingOut.{made_opens}
 use Rattle.esa_running.proofs.RanEnds.{Ended, overflowed, failed_at, tampered_at, unloaded, few_failures}
 use Rattle.esa_running.proofs.Rooms.{scans_room}
@@ -13,7 +13,7 @@ pub work_shuffled-requires-clause-shuffled : goal.work_shuffled-requires-clause-
 work_shuffled-requires-clause-shuffled g c =
     let met = c.requires.ends in
     let seen = seen_of g.V.Device.faults met.0 met.1 c.args.recorder.now c.args.history.now (g.K.Cabinet.faults c.args.cabinet.now) in
-    (met.0, met.1, (subst (Ended (run_taken c.args.input.now) seen c.args.recorder.now.last c.args.failures.now) c.in-Shuffled.is met.2).outcome)
+    (met.0, met.1, (subst (Ended (run_taken c.args.input.now) seen c.args.recorder.now.last c.args.failures.now) c.in-Shuffled.is met.2).run.outcome)
 
 pub work_shuffled-requires-clause-room : goal.work_shuffled-requires-clause-room
 work_shuffled-requires-clause-room g c =
@@ -21,7 +21,7 @@ work_shuffled-requires-clause-room g c =
     let met = c.requires.ends in
     let recorder = c.args.recorder.now in
     let seen = seen_of g.V.Device.faults met.0 met.1 recorder c.args.history.now (g.K.Cabinet.faults c.args.cabinet.now) in
-    let shuffled = (subst (Ended asked seen recorder.last c.args.failures.now) c.in-Shuffled.is met.2).outcome in
+    let shuffled = (subst (Ended asked seen recorder.last c.args.failures.now) c.in-Shuffled.is met.2).run.outcome in
     let plan = c.requires.taken.plan in
     subst (λ p. 2 * p.b ≤ recorder.room) (sym plan)
     (scans_room (sizes_in asked) asked.draws (turns_by asked c.args.history.now) seen c.in-Shuffled.attempt recorder.room shuffled (subst (λ p. greatest_trace p ≤ length recorder.trace + recorder.room) plan c.requires.room))
@@ -29,7 +29,7 @@ work_shuffled-requires-clause-room g c =
 pub returns-in-Shuffled-clause-works : goal.returns-in-Shuffled-clause-works
 returns-in-Shuffled-clause-works g c = λ device batch given met made.
     let seen = seen_of g.V.Device.faults device batch c.args.recorder.now c.args.history.now (g.K.Cabinet.faults c.args.cabinet.now) in
-    c.work_shuffled.ensures.works device batch given (subst (Ended (run_taken c.args.input.now) seen c.args.recorder.now.last c.args.failures.now) c.in-Shuffled.is met).outcome
+    c.work_shuffled.ensures.works device batch given (subst (Ended (run_taken c.args.input.now) seen c.args.recorder.now.last c.args.failures.now) c.in-Shuffled.is met).run.outcome
     (subst (λ o. IsMadeOf (run_taken c.args.input.now) c.args.history.now c.args.recorder.now.log o given) c.in-Shuffled.is made)
 
 pub failures_of-requires : goal.failures_of-requires
@@ -48,7 +48,7 @@ returns-in-Overflow-clause-works g c = λ device batch given met made.
     let last = c.args.recorder.now.last in
     let e = subst (Ended asked seen last c.args.failures.now) c.in-Overflow.is met in
     let m = subst (λ o. IsMadeOf asked c.args.history.now c.args.recorder.now.log o given) c.in-Overflow.is made in
-    (_, inr (inl (overflowed asked seen last c.args.failures.now c.failures_of.result c.failures_of.ensures e)), record { took = m.shuffled.took; failed = m.shuffled.failed; written = m.shuffled.written; gave = made_opens asked given c.args.history.now c.args.recorder.now.log _ m }, c.work_failed.ensures)
+    (_, inr (inl (overflowed asked seen last c.args.failures.now c.failures_of.result c.failures_of.ensures e)), record { took = m.shuffled.took; failed = m.shuffled.failed; written = m.shuffled.written; gave = made_opens asked given c.args.history.now c.args.recorder.now.log _ m }, m.crew, c.work_failed.ensures)
 
 pub returns-in-DeviceFault-clause-works : goal.returns-in-DeviceFault-clause-works
 returns-in-DeviceFault-clause-works g c = λ device batch given met made.
@@ -57,7 +57,7 @@ returns-in-DeviceFault-clause-works g c = λ device batch given met made.
     let last = c.args.recorder.now.last in
     let e = subst (Ended asked seen last c.args.failures.now) c.in-DeviceFault.is met in
     let m = subst (λ o. IsMadeOf asked c.args.history.now c.args.recorder.now.log o given) c.in-DeviceFault.is made in
-    (_, inr (inr (inl (failed_at asked seen last c.args.failures.now c.in-DeviceFault.slot e))), record { took = m.shuffled.took; failed = m.shuffled.failed; written = m.shuffled.written; gave = made_opens asked given c.args.history.now c.args.recorder.now.log _ m }, c.work_failed-in-DeviceFault.ensures)
+    (_, inr (inr (inl (failed_at asked seen last c.args.failures.now c.in-DeviceFault.slot e))), record { took = m.shuffled.took; failed = m.shuffled.failed; written = m.shuffled.written; gave = made_opens asked given c.args.history.now c.args.recorder.now.log _ m }, m.crew, c.work_failed-in-DeviceFault.ensures)
 
 pub returns-in-Tampered-clause-works : goal.returns-in-Tampered-clause-works
 returns-in-Tampered-clause-works g c = λ device batch given met made.
@@ -66,7 +66,7 @@ returns-in-Tampered-clause-works g c = λ device batch given met made.
     let last = c.args.recorder.now.last in
     let e = subst (Ended asked seen last c.args.failures.now) c.in-Tampered.is met in
     let m = subst (λ o. IsMadeOf asked c.args.history.now c.args.recorder.now.log o given) c.in-Tampered.is made in
-    (_, inr (inr (inr (inl (tampered_at asked seen last c.args.failures.now c.in-Tampered.slot e)))), record { took = m.shuffled.took; failed = m.shuffled.failed; written = m.shuffled.written; gave = made_opens asked given c.args.history.now c.args.recorder.now.log _ m }, c.work_failed-in-Tampered.ensures)
+    (_, inr (inr (inr (inl (tampered_at asked seen last c.args.failures.now c.in-Tampered.slot e)))), record { took = m.shuffled.took; failed = m.shuffled.failed; written = m.shuffled.written; gave = made_opens asked given c.args.history.now c.args.recorder.now.log _ m }, m.crew, c.work_failed-in-Tampered.ensures)
 
 pub returns-in-BatchFailed-clause-works : goal.returns-in-BatchFailed-clause-works
 returns-in-BatchFailed-clause-works g c = λ device batch given met made.
@@ -75,4 +75,4 @@ returns-in-BatchFailed-clause-works g c = λ device batch given met made.
     let last = c.args.recorder.now.last in
     let e = subst (Ended asked seen last c.args.failures.now) c.in-BatchFailed.is met in
     let m = subst (λ o. IsMadeOf asked c.args.history.now c.args.recorder.now.log o given) c.in-BatchFailed.is made in
-    (_, inr (inr (inr (inr (inl (unloaded asked seen last c.args.failures.now e))))), record { took = m.shuffled.took; failed = m.shuffled.failed; written = m.shuffled.written; gave = made_opens asked given c.args.history.now c.args.recorder.now.log _ m }, c.work_unloaded.ensures)
+    (_, inr (inr (inr (inr (inl (unloaded asked seen last c.args.failures.now e))))), record { took = m.shuffled.took; failed = m.shuffled.failed; written = m.shuffled.written; gave = made_opens asked given c.args.history.now c.args.recorder.now.log _ m }, m.crew, c.work_unloaded.ensures)

@@ -6,9 +6,9 @@ use Rattle.esa_command.specs.Doing.{failed_work}
 use Rattle.esa_command.specs.Settled.{Settles}
 use Rattle.esa_command.specs.Stand.{stand}
 use Rattle.esa_command.proofs.Settling.{none_written}
-use Rattle.esa_running.specs.RunTaken.{run_taken}
+use Rattle.esa_taking.specs.RunTaken.{run_taken}
 use Rattle.esa_running.specs.RunWork.{records_of}
-use Rattle.esa_running.proofs.Needed.{none_made}
+use Rattle.esa_running.proofs.NothingMade.{none_made}
 use Rattle.esa_running.proofs.ending.work_unloaded.Goals as goal
 
 pub returns-then-is_empty : goal.returns-then-is_empty

@@ -3,9 +3,9 @@ use Rattle.std.specs.Prelude.{unwrap_or}
 use Rattle.esa_job.specs.Seen.{request_of}
 use Rattle.esa_job.specs.declared.field.JobField.TheVariants as field
 use Rattle.esa_command.specs.Asked.{number_of}
-use Rattle.esa_running.specs.RunTaken.{run_taken}
+use Rattle.esa_taking.specs.RunTaken.{run_taken}
 use Rattle.esa_running.proofs.Forwarded.{forwarded_here, broken_here}
-use Rattle.esa_running.proofs.Needed.{needs}
+use Rattle.esa_taking.proofs.Needed.{needs}
 use Rattle.esa_running.proofs.forwarding.forward_output.Goals as goal
 
 pub t-requires : goal.t-requires

@@ -12,9 +12,9 @@ use Rattle.esa_command.specs.Stand.{stand}
 use Rattle.esa_command.specs.Taking.{name_of}
 use Rattle.esa_command.specs.Work.{Write}
 use Rattle.esa_command.proofs.Settling.{writes_whole}
-use Rattle.esa_running.specs.RunTaken.{run_taken}
+use Rattle.esa_taking.specs.RunTaken.{run_taken}
 use Rattle.esa_running.specs.RunWork.{records_of, shuffled_text, holds_text, made_text, well_work}
-use Rattle.esa_running.specs.Wanted.{inner_keys}
+use Rattle.esa_taking.specs.Wanted.{inner_keys}
 use Rattle.esa_running.proofs.Joining.{joined_number, joined_few}
 use Rattle.esa_running.proofs.outlet.work_counted.Goals as goal
 

@@ -3,7 +3,7 @@ use Rattle.esa_command.specs.Settled.{Settles}
 use Rattle.esa_command.specs.Stand.{stand}
 use Rattle.esa_running.specs.declared.outlet.Outlet.{Outlet}
 use Rattle.esa_running.specs.Outlets.{purpose_of}
-use Rattle.esa_running.specs.RunTaken.{run_taken}
+use Rattle.esa_taking.specs.RunTaken.{run_taken}
 use Rattle.esa_running.specs.RunWork.{success_work}
 use Rattle.esa_running.proofs.outlet.work_forwarded.Goals as goal
 

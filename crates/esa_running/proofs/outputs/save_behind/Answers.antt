@@ -4,7 +4,7 @@ use Rattle.esa_refusal.specs.declared.source.Sink.TheVariants.{Output}
 use Rattle.esa_command.specs.Doing.{WritesIt, AreBroken}
 use Rattle.esa_command.specs.Stand.{stand}
 use Rattle.esa_command.proofs.Written.{broken_before, writes_then}
-use Rattle.esa_running.specs.RunTaken.{run_taken}
+use Rattle.esa_taking.specs.RunTaken.{run_taken}
 use Rattle.esa_running.specs.RunWork.{records_of}
 use Rattle.esa_running.proofs.outputs.save_behind.Goals as goal
 

@@ -9,10 +9,10 @@ use Rattle.esa_command.specs.Doing.{AreWritten, AreBroken, WritesAll}
 use Rattle.esa_command.specs.Stand.{stand}
 use Rattle.esa_command.proofs.Written.{broken_before, writes_then}
 use Rattle.esa_shuffling.specs.Plan.{trace_writes}
-use Rattle.esa_running.specs.RunTaken.{run_taken}
+use Rattle.esa_taking.specs.RunTaken.{run_taken}
 use Rattle.esa_running.specs.RunWork.{turns_writes}
-use Rattle.esa_running.specs.StoredTurns.{IsHistory}
-use Rattle.esa_running.specs.Wanted.{sizes_in}
+use Rattle.esa_taking.specs.StoredTurns.{IsHistory}
+use Rattle.esa_taking.specs.Wanted.{sizes_in}
 use Rattle.esa_running.proofs.outputs.save_records.Goals as goal
 
 pub save_trace-requires-clause-attempts : goal.save_trace-requires-clause-attempts

@@ -1,5 +1,5 @@
 use Rattle.esa_command.specs.Stand.{stand}
-use Rattle.esa_running.specs.RunTaken.{run_taken}
+use Rattle.esa_taking.specs.RunTaken.{run_taken}
 use Rattle.esa_running.specs.RunWork.{records_of}
 use Rattle.esa_running.proofs.outputs.work_failed.Goals as goal
 

@@ -7,9 +7,11 @@ use Rattle.esa_refusal.specs.declared.status.Status.TheVariants.{DeviceFault}
 use Rattle.esa_command.specs.Doing.{failed_work}
 use Rattle.esa_command.specs.Stand.{stand}
 use Rattle.esa_command.proofs.Settling.{none_written}
-use Rattle.esa_running.specs.RunTaken.{run_taken}
-use Rattle.esa_running.specs.Wanted.{sizes_in}
+use Rattle.esa_taking.specs.RunTaken.{run_taken}
+use Rattle.esa_taking.specs.Wanted.{sizes_in}
+use Rattle.esa_running.proofs.ByCrew.{none_by_crew}
 use Rattle.esa_running.proofs.ComingOut.{none_loaded, none_became, none_recorded}
+use Rattle.esa_running.proofs.Turned.{few_handed_in}
 use Rattle.esa_running.proofs.run_command.act.Goals as goal
 
 failed_cause : (before now : ℕ) → Counted {T = Unit {0}} before now (Err Failed) → Rose before now
@@ -25,8 +27,10 @@ returns g c =
         given = [];
         load = none_loaded (run_taken c.args.input.now) cabinet;
         became = none_became (run_taken c.args.input.now) c.ready.new.self.log c.ready.ensures.log;
-        ends = inr (inr (inr (inr (inr (record { trace = c.ready.ensures.trace; history = refl; cause = failed_cause _ _ (rw c.in-Err-Failed.field-0-is at c.in-Err-Failed.ensures.cause); owed = refl })))));
-        recorder = none_recorded g.V.Device.told (sizes_in (run_taken c.args.input.now)) c.ready.new.self c.ready.ensures.trace c.ready.ensures.log;
+        few = few_handed_in (run_taken c.args.input.now) [] c.requires.mode;
+        crew = none_by_crew (run_taken c.args.input.now);
+        ends = inr (inr (inr (inr (inr (record { trace = c.ready.ensures.trace; history = refl; cause = failed_cause _ _ (rw c.in-Err-Failed.field-0-is at c.in-Err-Failed.ensures.cause); batch = refl; owed = refl })))));
+        recorder = none_recorded g.V.Device.told (sizes_in (run_taken c.args.input.now)) c.ready.new.self c.ready.ensures.trace c.ready.ensures.log c.ready.ensures.last;
         still = refl;
       };
       settles = c.settle_failed.ensures [] cabinet cabinet (none_written cabinet);

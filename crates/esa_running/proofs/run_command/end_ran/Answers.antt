@@ -1,12 +1,13 @@
 use Rattle.std.proofs.Common.{◌∙◌, sym, subst}
 use Rattle.esa_device.specs.Logs.{IsBacked}
 use Rattle.esa_shuffle.specs.Runs.{seen_of}
+use Rattle.esa_running.specs.ByCrew.{IsByCrew, uncut_by}
 use Rattle.esa_running.specs.ComingOut.{Became, IsMadeOf}
 use Rattle.esa_running.specs.Outlets.{purpose_of}
 use Rattle.esa_running.specs.RunOwes.{EndsShuffle, HasEnded}
-use Rattle.esa_running.specs.RunTaken.{run_taken}
+use Rattle.esa_taking.specs.RunTaken.{run_taken}
 use Rattle.esa_running.specs.RunWork.{FitFiles}
-use Rattle.esa_running.specs.Wanted.{sizes_in}
+use Rattle.esa_taking.specs.Wanted.{sizes_in}
 use Rattle.esa_running.proofs.RanEnds.{ended_fits}
 use Rattle.esa_running.proofs.run_command.end_ran.Goals as goal
 
@@ -42,7 +43,8 @@ returns-clause-works g c = λ device batch given met made.
       work = done.0;
       ends = subst (λ history. HasEnded (purpose_of c.args.store.outlet) g.V.Device.told g.V.Device.faults asked given (seen_of g.V.Device.faults device batch new history now) new done.0) c.entries.ensures done.1;
       became = subst (λ history. Became asked given history new.log done.0.ended) c.entries.ensures done.2;
-      settles = done.3;
+      crew = subst (λ history. IsByCrew asked history (uncut_by done.0.ended)) c.entries.ensures done.3;
+      settles = done.4;
     }
 
 pub returns-clause-recorder : goal.returns-clause-recorder
@@ -53,5 +55,6 @@ returns-clause-recorder g c =
     record {
       plan = λ some. plan;
       logged = c.keeps_its_log.ensures.accesses;
+      last = c.keeps_its_log.ensures.gave;
       backed = subst (λ p. IsBacked p (g.V.Device.told new.device) new.log) plan c.keeps_its_log.ensures.backed;
     }

@@ -11,11 +11,11 @@ use Rattle.esa_command.specs.Stand.{stand}
 use Rattle.esa_command.proofs.Composition.{judged_out}
 use Rattle.esa_command.proofs.Ending.{ends_idle, ends_act}
 use Rattle.esa_running.specs.Purpose.{command_for}
-use Rattle.esa_running.specs.Run.{run_steps}
+use Rattle.esa_taking.specs.Run.{run_steps}
 use Rattle.esa_running.specs.RunEnded.{IsIdle, history_in}
 use Rattle.esa_running.specs.RunOwes.{RunOwes}
-use Rattle.esa_running.specs.RunTaken.{run_taken}
-use Rattle.esa_running.proofs.Modes.{not_allowed}
+use Rattle.esa_taking.specs.RunTaken.{run_taken}
+use Rattle.esa_taking.proofs.Modes.{not_allowed}
 use Rattle.esa_running.proofs.run_command.run.Goals as goal
 
 pub returns-in-Ok-act : goal.returns-in-Ok-act

@@ -1,13 +1,16 @@
 use Rattle.std.proofs.Common.{◌≢◌, [], ◌∷◌, refl, sym, subst}
+use Rattle.esa_parallel.specs.Crews.{uncut_of}
 use Rattle.esa_shuffle.specs.Loading.{HasGiven}
 use Rattle.esa_shuffle.specs.Records.{IsShuffledFrom}
 use Rattle.esa_shuffle.specs.Runs.{seen_of}
 use Rattle.esa_command.specs.Stand.{stand}
+use Rattle.esa_running.specs.ByCrew.{IsByCrew}
 use Rattle.esa_running.specs.ComingOut.{batch_told, batch_part, IsLoaded}
 use Rattle.esa_running.specs.RunEnded.{history_in}
 use Rattle.esa_running.specs.RunOwes.{IsRecorded}
-use Rattle.esa_running.specs.RunTaken.{run_taken}
-use Rattle.esa_running.specs.Wanted.{block_keys, outer_keys, turns_by}
+use Rattle.esa_taking.specs.RunTaken.{run_taken}
+use Rattle.esa_taking.specs.Wanted.{block_keys, outer_keys, turns_by, HasFewAttempts}
+use Rattle.esa_running.proofs.ByCrew.{not_by_crew}
 use Rattle.esa_running.proofs.ComingOut.{loaded, made_of}
 use Rattle.esa_running.proofs.run_command.run_ready.Goals as goal
 
@@ -29,9 +32,11 @@ returns-in-Ok g c =
     let gave =
     subst (λ p. HasGiven p (batch_told asked taken.told) (batch_part asked) taken.heard acted.heard (ran.history ≢ p.workers ∷ [])
     (IsShuffledFrom p asked.draws (turns_by asked ran.history) (outer_keys asked) (block_keys asked) ran.history ran.recorder.log ran.outcome)) c.requires.taken.plan c.in-Ok.ensures.given in
+    let crew : IsByCrew asked ran.history (uncut_of ran.outcome) =
+    not_by_crew asked ran.history (uncut_of ran.outcome) c.requires.mode in
     let done =
     c.end_ran.ensures.works device batch gave.given ends
-    (made_of asked taken acted ran.history ran.recorder.log ran.outcome gave seen ran.recorder.last ran.failures c.requires.taken.limits refl ends) in
+    (made_of asked taken acted ran.history ran.recorder.log ran.outcome gave seen ran.recorder.last ran.failures c.requires.taken.limits refl ends crew) in
     record {
       work = done.work;
       acted = acted;
@@ -39,6 +44,8 @@ returns-in-Ok g c =
         given = gave.given;
         load = subst (λ history. IsLoaded asked taken acted history gave.given) (sym c.end_ran.ensures.history) (loaded asked taken acted ran.history ran.recorder.log ran.outcome gave);
         became = done.became;
+        few = subst (HasFewAttempts asked) (sym c.end_ran.ensures.history) c.in-Ok.ensures.few;
+        crew = done.crew;
         ends = done.ends;
         recorder = subst (λ p. IsRecorded g.V.Device.told p (history_in c.end_ran.result.history) c.end_ran.result.recorder) c.requires.taken.plan c.end_ran.ensures.recorder;
         still = c.shuffle_batch.ensures.told;

@@ -2,8 +2,8 @@ use Rattle.std.proofs.Common.{◌≢◌, [], ◌∷◌}
 use Rattle.std.proofs.lemmas.Result.{IfOk-weaker}
 use Rattle.esa_shuffle.specs.Records.{IsShuffledFrom}
 use Rattle.esa_shuffling.specs.Drawn.{draws_of}
-use Rattle.esa_running.specs.RunTaken.{run_taken}
-use Rattle.esa_running.specs.Wanted.{block_keys, outer_keys, turns_by}
+use Rattle.esa_taking.specs.RunTaken.{run_taken}
+use Rattle.esa_taking.specs.Wanted.{block_keys, outer_keys, turns_by}
 use Rattle.esa_running.proofs.ComingOut.{given_as}
 use Rattle.esa_running.proofs.run_command.shuffle_records.Goals as goal
 

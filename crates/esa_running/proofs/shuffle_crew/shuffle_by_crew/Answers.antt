@@ -6,7 +6,7 @@ use Rattle.esa_spec.specs.Histories.{lists}
 use Rattle.esa_shuffle.specs.Loading.{HasGiven}
 use Rattle.esa_shuffle.specs.Records.{IsShuffledFrom}
 use Rattle.esa_shuffle.specs.Runs.{seen_of}
-use Rattle.esa_running.specs.RunTaken.{run_taken}
+use Rattle.esa_taking.specs.RunTaken.{run_taken}
 use Rattle.esa_running.proofs.Turned.{ended_by_crew, few_stored, stored_are}
 use Rattle.esa_running.proofs.shuffle_crew.shuffle_by_crew.Goals as goal
 

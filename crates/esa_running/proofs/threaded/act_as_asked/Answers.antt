@@ -1,8 +1,8 @@
 use Rattle.std.proofs.Common.{Some, refl, ap, ◌∙◌}
 use Rattle.esa_job.specs.Seen.{request_of}
 use Rattle.esa_job.specs.declared.field.JobField.TheVariants as field
-use Rattle.esa_running.proofs.Modes.{runs, runs_not}
-use Rattle.esa_running.proofs.Needed.{needs}
+use Rattle.esa_taking.proofs.Modes.{runs, runs_not}
+use Rattle.esa_taking.proofs.Needed.{needs}
 use Rattle.esa_running.proofs.threaded.act_as_asked.Goals as goal
 
 pub mode-requires : goal.mode-requires

@@ -1,7 +1,7 @@
 use Rattle.std.proofs.Common.{refl}
 use Rattle.esa_job.specs.Seen.{request_of}
 use Rattle.esa_job.specs.declared.field.JobField.TheVariants as field
-use Rattle.esa_running.proofs.Needed.{needs}
+use Rattle.esa_taking.proofs.Needed.{needs}
 use Rattle.esa_running.proofs.threaded.crew_batch.Goals as goal
 
 pub input-requires : goal.input-requires

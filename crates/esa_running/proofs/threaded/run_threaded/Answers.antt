@@ -9,10 +9,10 @@ use Rattle.esa_command.specs.Stand.{stand}
 use Rattle.esa_command.proofs.Composition.{judged_out}
 use Rattle.esa_command.proofs.Ending.{ends_idle, ends_act}
 use Rattle.esa_running.specs.Purpose.{command_for}
-use Rattle.esa_running.specs.Run.{run_steps}
+use Rattle.esa_taking.specs.Run.{run_steps}
 use Rattle.esa_running.specs.RunEnded.{IsIdle, history_in}
 use Rattle.esa_running.specs.RunOwes.{RunOwes}
-use Rattle.esa_running.specs.RunTaken.{run_taken}
+use Rattle.esa_taking.specs.RunTaken.{run_taken}
 use Rattle.esa_running.proofs.threaded.run_threaded.Goals as goal
 
 pub returns-in-Ok-act_as_asked : goal.returns-in-Ok-act_as_asked

@@ -6,9 +6,10 @@ use Rattle.esa_command.specs.Settled.{Settles}
 use Rattle.esa_command.specs.Stand.{stand}
 use Rattle.esa_running.specs.Forwarding.{AreJoined}
 use Rattle.esa_running.specs.Outlets.{HasRoom}
-use Rattle.esa_running.specs.RunTaken.{run_taken}
+use Rattle.esa_taking.specs.RunTaken.{run_taken}
 use Rattle.esa_running.specs.RunWork.{records_of}
-use Rattle.esa_running.proofs.ComingOut.{drawn_for, forwarded_on, forwarded_opens, broken_on, broken_opens, became_well, became_broken, made_opens}
+use Rattle.esa_running.proofs.ByCrew.{broken_by_crew}
+use Rattle.esa_running.proofs.ComingOut.{drawn_for, forwarded_failed, forwarded_on, forwarded_opens, broken_failed, broken_on, broken_opens, became_well, became_broken, made_opens}
 use Rattle.esa_running.proofs.RunEnds.{succeeded, success_fits, broken_off, broken_fits}
 use Rattle.esa_running.proofs.working.work_shuffled.Goals as goal
 
@@ -45,8 +46,10 @@ returns-in-Ok-clause-works g c = λ device batch given s made.
       _,
       inl (succeeded g.V.Device.told g.V.Device.faults asked device batch (g.K.Cabinet.faults c.args.cabinet.now) c.args.history.now attempt old new s taken.limits drawn given made
           (record { plan = c.requires.ready ∙ ap Some taken.plan; trace = s.made; logged = c.keeps_its_log.ensures.accesses }) _ f.0 f.1),
-      became_well asked given c.args.history.now old.log new.log (forwarded_on g.V.Device.told g.V.Device.faults asked attempt old new f.0 f.1) (Shuffled attempt) made made.shuffled.failed
+      became_well asked given c.args.history.now old.log new.log (forwarded_on g.V.Device.told g.V.Device.faults asked attempt old new f.0 f.1) (Shuffled attempt) made
+          (forwarded_failed g.V.Device.told g.V.Device.faults asked attempt old new made.shuffled.failed f.0 f.1)
           (forwarded_opens asked c.args.history.now attempt g.V.Device.told g.V.Device.faults old new (made_opens asked given c.args.history.now old.log (Shuffled attempt) made) f.0 f.1),
+      made.crew,
       c.work_forwarded.ensures f.0 (subst (AreJoined (run_taken c.args.input.now) f.0) (sym c.forward.ensures) f.2),
     )
 
@@ -60,9 +63,11 @@ returns-clause-works g c = λ device batch given s made.
           _ given c.in-Err.fault c.in-Err.ensures.broken,
       became_broken asked given c.args.history.now c.args.recorder.now.log c.forward_output.new.recorder.log
           (broken_on g.V.Device.told g.V.Device.faults asked c.args.attempt c.args.recorder.now c.forward_output.new.recorder c.in-Err.fault c.in-Err.ensures.broken)
-          (Shuffled c.args.attempt) made c.in-Err.fault made.shuffled.failed
+          (Shuffled c.args.attempt) made c.in-Err.fault
+          (broken_failed g.V.Device.told g.V.Device.faults asked c.args.attempt c.args.recorder.now c.forward_output.new.recorder made.shuffled.failed c.in-Err.fault c.in-Err.ensures.broken)
           (broken_opens asked c.args.history.now c.args.attempt g.V.Device.told g.V.Device.faults c.args.recorder.now c.forward_output.new.recorder
           (made_opens asked given c.args.history.now c.args.recorder.now.log (Shuffled c.args.attempt) made) c.in-Err.fault c.in-Err.ensures.broken),
+      broken_by_crew asked c.args.history.now c.args.attempt c.in-Err.fault made.crew,
       subst (λ status. Settles (failed_work status (records_of asked c.forward_output.new.recorder.trace c.args.history.now)) (cabinet c.args.cabinet.now) (cabinet c.work_failed.new.cabinet) (printer c.args.printer.now) (printer c.work_failed.new.printer) c.work_failed.result)
           c.status_of_fault-status.ensures c.work_failed.ensures,
     )

@@ -1,0 +1,4 @@
+pub mod Run
+pub mod RunTaken
+pub mod StoredTurns
+pub mod Wanted
