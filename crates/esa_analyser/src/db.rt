@@ -1,6 +1,6 @@
 //! A database that was read from its file.
 
-ghost use Rattle.std.specs.Prelude.{◌≡◌, ◌⊎◌, ◌<◌, ◌≤◌, ◌^◌, None, Ok, Err, length, drop, map, slice_index_or, IfOk, MatchResult, []};
+ghost use Rattle.std.specs.Prelude.{◌≡◌, ◌⊎◌, ◌<◌, ◌≤◌, None, Ok, Err, length, drop, map, slice_index_or, IfOk, MatchResult, []};
 ghost use Rattle.esa_analyser.specs.declared.refused.DbRefused.TheVariants.{OutOfMemory};
 ghost use Rattle.esa_params.specs.declared.form.Form.{Form};
 ghost use Rattle.esa_analyser.specs.Database.{Database};

@@ -1,7 +1,7 @@
 //! How a crew begins an attempt.
 
 ghost use Rattle.std.specs.Prelude.{◌≡◌, ℕ, ◌<◌, [], length};
-ghost use Rattle.esa_floor.specs.Keeping.{QueuesHold, SlotsHold};
+ghost use Rattle.esa_floor.specs.Keeping.{KeepsDone, QueuesHold, SlotsHold};
 ghost use Rattle.esa_floor.specs.Parts.{begun_as};
 ghost use Rattle.esa_floor.specs.Standing.{Stands, turns_made};
 ghost use Rattle.esa_floor.specs.Written.{EachGaveItsBlock, EachTookItsBlock};
@@ -30,6 +30,7 @@ pub fn begin<V: Device, G: Told, C: Coins>(
     ensures hold { AllHold G.draws floor.new workers.new }
     ensures queues { QueuesHold G.draws floor.new }
     ensures slots { SlotsHold G.draws floor.new }
+    ensures done { KeepsDone V.faults G.draws floor.new }
     ensures reads { EachGaveItsBlock G.draws floor.old → EachGaveItsBlock G.draws floor.new }
     ensures took { (record_of : ℕ → Item) → EachTookItsBlock G.draws record_of floor.old → EachTookItsBlock G.draws record_of floor.new }
 {

@@ -5,7 +5,7 @@ ghost use Rattle.esa_spec.specs.Completion.{completed};
 ghost use Rattle.esa_spec.specs.Fronts.{Begins};
 ghost use Rattle.esa_spec.specs.Traces.{asked};
 ghost use Rattle.esa_spec.specs.Turns.{next};
-ghost use Rattle.esa_floor.specs.Keeping.{HoldsAfter, QueuesHold, QueuesHoldAfter, SlotsHold, SlotsHoldAfter, StopsAfter};
+ghost use Rattle.esa_floor.specs.Keeping.{HoldsAfter, KeepsDone, QueuesHold, QueuesHoldAfter, SlotsHold, SlotsHoldAfter, StopsAfter};
 ghost use Rattle.esa_floor.specs.Marks.{roots_of};
 ghost use Rattle.esa_floor.specs.Standing.{Stands, attempt_begun, turns_made};
 ghost use Rattle.esa_floor.specs.Working.{Working};
@@ -41,6 +41,7 @@ fn step<V: Device, G: Told, C: Coins>(floor: &mut Floor<V, G>, worker: &mut Work
     ensures others_hold { (other : Working C) → KeepsRecords G.draws floor.old other → KeepsRecords G.draws floor.new other }
     ensures queues { KeepsRecords G.draws floor.old worker.old → QueuesHold G.draws floor.old → QueuesHold G.draws floor.new }
     ensures slots { KeepsRecords G.draws floor.old worker.old → SlotsHold G.draws floor.old → SlotsHold G.draws floor.new }
+    ensures done { KeepsRecords G.draws floor.old worker.old → KeepsDone V.faults G.draws floor.old → KeepsDone V.faults G.draws floor.new }
     ensures took { (record_of : ℕ → Item) → KeepsRecords G.draws floor.old worker.old → EachTookItsBlock G.draws record_of floor.old
         → EachTookItsBlock G.draws record_of floor.new }
     ensures log { Begins floor.old.recorder.log floor.new.recorder.log }
@@ -80,6 +81,7 @@ fn step_of<V: Device, G: Told, C: Coins>(
     ensures hold { AllHold G.draws floor.old workers.old → QueuesHold G.draws floor.old → AllHold G.draws floor.new workers.new }
     ensures queues { AllHold G.draws floor.old workers.old → QueuesHold G.draws floor.old → QueuesHold G.draws floor.new }
     ensures slots { AllHold G.draws floor.old workers.old → SlotsHold G.draws floor.old → SlotsHold G.draws floor.new }
+    ensures done { AllHold G.draws floor.old workers.old → KeepsDone V.faults G.draws floor.old → KeepsDone V.faults G.draws floor.new }
     ensures took { (record_of : ℕ → Item) → AllHold G.draws floor.old workers.old → EachTookItsBlock G.draws record_of floor.old
         → EachTookItsBlock G.draws record_of floor.new }
     ensures log { Begins floor.old.recorder.log floor.new.recorder.log }
@@ -127,6 +129,7 @@ pub fn replay<V: Device, G: Told, C: Coins>(
     ensures hold { AllHold G.draws floor.old workers.old → QueuesHold G.draws floor.old → AllHold G.draws floor.new workers.new }
     ensures queues { AllHold G.draws floor.old workers.old → QueuesHold G.draws floor.old → QueuesHold G.draws floor.new }
     ensures slots { AllHold G.draws floor.old workers.old → QueuesHold G.draws floor.old → SlotsHold G.draws floor.old → SlotsHold G.draws floor.new }
+    ensures done { AllHold G.draws floor.old workers.old → KeepsDone V.faults G.draws floor.old → KeepsDone V.faults G.draws floor.new }
     ensures took { (record_of : ℕ → Item) → AllHold G.draws floor.old workers.old → QueuesHold G.draws floor.old → EachTookItsBlock G.draws record_of floor.old
         → EachTookItsBlock G.draws record_of floor.new }
     ensures log { Begins floor.old.recorder.log floor.new.recorder.log }

@@ -1,5 +1,5 @@
 -- How the stored turns of a run end, by what made the access that cut it.
-use Rattle.std.proofs.Common.{◌≡◌, ℕ, ◌+◌, Bool, true, List, [], length, take, Option, Some, sym, ap, subst, ◌∙◌}
+use Rattle.std.proofs.Common.{◌≡◌, ℕ, ◌+◌, true, List, [], length, take, Some, sym, ap, subst, ◌∙◌}
 use Rattle.esa_params.specs.Sizes.{Sizes}
 use Rattle.esa_params.specs.Slots.{access_of, at}
 use Rattle.esa_params.specs.declared.slot.Access.{Access}

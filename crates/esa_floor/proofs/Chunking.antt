@@ -121,15 +121,15 @@ module _ {V C : Type 0} (d : Draw) (target_list : ℕ → ℕ → List ℕ) (f n
         (subst (λ (xs : List Item). AreChunks f.plan d record_of (order f.plan.b h ++ j ∷ []) j xs) (sym made) are))
 
     -- one turn more, by its event
-    pub turn_chunks : (n : ℕ) (e : Event) → next f.plan.b h n ≡ e → Deals target_list e f new w → Leaves e f w v → Now n
+    pub turn_chunks : (n : ℕ) (e : Event) → next f.plan.b h n ≡ e → Deals target_list e f new w → Leaves e new.recorder.last f w v → Now n
     turn_chunks n (Claim j) is deals first = absurd (omega (arith, third, first))
-    turn_chunks n (Read j) is deals second = absurd (omega (arith, third, second))
-    turn_chunks n (Exchange j) is dealt left = exchange_holds n j is dealt.0 dealt.1 left.0 left.1
+    turn_chunks n (Read j) is deals left = let second = left.phase in absurd (omega (arith, third, second))
+    turn_chunks n (Exchange j) is dealt left = exchange_holds n j is dealt.0 dealt.1 left.bucket left.chunks_are
     turn_chunks n (Write j i) is deals left =
         kept_chunks f.plan d record_of h n v.bucket v.buffers.chunks
-        (subst (λ (k : ℕ). AreChunks f.plan d record_of (order f.plan.b h) k v.buffers.chunks) (left.1 ∙ sym left.2)
-        (subst (λ (xs : List Item). AreChunks f.plan d record_of (order f.plan.b h) w.bucket xs) (sym left.3)
-        (before left.0 (subst (λ (k : ℕ). k < f.plan.b) (left.2 ∙ sym left.1) inside))))
+        (subst (λ (k : ℕ). AreChunks f.plan d record_of (order f.plan.b h) k v.buffers.chunks) (left.before ∙ sym left.bucket)
+        (subst (λ (xs : List Item). AreChunks f.plan d record_of (order f.plan.b h) w.bucket xs) (sym left.same)
+        (before left.phase (subst (λ (k : ℕ). k < f.plan.b) (left.bucket ∙ sym left.before) inside))))
     turn_chunks n Done is deals first = absurd (omega (arith, third, first))
     turn_chunks n Idle is deals past = absurd (omega (arith, inside, past))
 
@@ -175,7 +175,7 @@ module _ {V : Type 0} (f new : Parts V) (run : Keys) (a : ℕ) (e : Event) (seal
     module _ {C : Type 0} (target_list : ℕ → ℕ → List ℕ) (w v : Working C)
         (state : IsAt faults ds f f.outcome f.attempt) (of : IsOfFloor ds target_list f w) (stands : f.attempt ≢ None → WorkerStands f w)
         (deals : f.attempt ≢ None → f.stop ≡ None → new.stop ≡ None → Deals target_list (next f.plan.b (turns_made f) n) f new w)
-        (leaves : f.attempt ≢ None → f.stop ≡ None → new.stop ≡ None → Leaves (next f.plan.b (turns_made f) n) f w v)
+        (leaves : f.attempt ≢ None → f.stop ≡ None → new.stop ≡ None → Leaves (next f.plan.b (turns_made f) n) new.recorder.last f w v)
         (holds : HoldsRecords f w) (queues : QueuesHold ds f) (before : HoldsChunks ds f w)
       where
         pub chunks_on : HasInput new record_of → new.attempt ≢ None → new.stop ≡ None → 3 ≤ v.phase → v.bucket < new.plan.b

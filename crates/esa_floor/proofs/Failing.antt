@@ -52,13 +52,13 @@ module _ (p : Sizes) (run : Keys) (a : ℕ) (log : List Carried) (none : NoneFai
   abbrev pub Asks : Event → Option Stop → Type 0
   Asks e s = (number : ℕ) → s ≡ Some (stop.DeviceFault number) → asked p a e ≢ None
 
-  moved_read : (j : ℕ) (s : Option Stop) (given : List ℕ) → FailedByStop s (log ++ read_of p a j s given ∷ [])
+  pub moved_read : (j : ℕ) (s : Option Stop) (given : List ℕ) → FailedByStop s (log ++ read_of p a j s given ∷ [])
   moved_read j None given = All-push Moved log (read_of p a j None given) none (some_bytes given)
   moved_read j (Some (stop.DeviceFault number)) given = last_failed log (access_of p a Reads (at Input j)) none
   moved_read j (Some (stop.Tampered number)) given = All-push Moved log (read_of p a j (Some (stop.Tampered number)) given) none (some_bytes given)
   moved_read j (Some (stop.StashOverflow k)) given = All-push Moved log (read_of p a j (Some (stop.StashOverflow k)) given) none (some_bytes given)
 
-  moved_write : (j i : ℕ) (s : Option Stop) (chunks : List Item) → FailedByStop s (log ++ write_of p run a j i s chunks ∷ [])
+  pub moved_write : (j i : ℕ) (s : Option Stop) (chunks : List Item) → FailedByStop s (log ++ write_of p run a j i s chunks ∷ [])
   moved_write j i None chunks = All-push Moved log (write_of p run a j i None chunks) none (some_bytes _)
   moved_write j i (Some (stop.DeviceFault number)) chunks = last_failed log (access_of p a Writes (chunk_slot p j i)) none
   moved_write j i (Some (stop.Tampered number)) chunks = All-push Moved log (write_of p run a j i (Some (stop.Tampered number)) chunks) none (some_bytes _)

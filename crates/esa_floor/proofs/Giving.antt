@@ -108,7 +108,7 @@ module _ (p : Sizes) (run : Keys) (ds : ℕ → Draw) (turns : ℕ → List ℕ)
     pub each-gave_on : (log : List Carried) → All Gave_its log → All (GaveItsBlock p run ds now) log
     each-gave_on log each = All-weaker Gave_its (GaveItsBlock p run ds now) gave-on log each
 
-    but-gave_on : (log : List Carried) → EachButLast Gave_its log → EachButLast (GaveItsBlock p run ds now) log
+    pub but-gave_on : (log : List Carried) → EachButLast Gave_its log → EachButLast (GaveItsBlock p run ds now) log
     but-gave_on log each x entry inside = gave-on (get_or log x entry) (each x entry inside)
 
     pub reads-gave_on : (s : Option Stop) (log : List Carried) → ReadsGave Gave_its s log → ReadsGave (GaveItsBlock p run ds now) s log

@@ -1,6 +1,7 @@
 -- The records of the input, in what a floor and its workers keep.
-use Rattle.std.proofs.Common.{◌≡◌, ◌≢◌, ℕ, suc, zero, ◌+◌, ◌-◌, ◌*◌, ◌<◌, ◌≤◌, false, List, [], ◌∷◌, ◌++◌, take, drop, Option, Result, Ok, Err, refl, sym, ap, ◌∙◌, subst, arith, append-nil, zero-add}
-use Rattle.std.specs.Prelude.{OnOk}
+use Rattle.std.proofs.Common.{◌≡◌, ◌≢◌, ℕ, suc, zero, ◌+◌, ◌-◌, ◌*◌, ◌<◌, ◌≤◌, Bool, true, false, List, [], ◌∷◌, ◌++◌, take, drop, Option, Some, None, Result, Ok, Err, refl, sym, ap, ◌∙◌, subst, arith, append-nil, zero-add}
+use Rattle.std.specs.Prelude.{OnOk, unwrap_or}
+use Rattle.std.specs.Option.{option_map_or}
 use Rattle.std.proofs.Math.Nat.{mul_comm}
 use Rattle.std.proofs.lemmas.List.{drop-take}
 use Rattle.esa_laws.proofs.Ranges.{map-below-same}
@@ -11,6 +12,7 @@ use Rattle.esa_envelope.specs.declared.keys.Keys.{Keys}
 use Rattle.esa_params.specs.Form.{envelope_length}
 use Rattle.esa_params.specs.Sizes.{Sizes, size}
 use Rattle.esa_params.specs.Slots.{access_of, at, number_of, plain_length, writes_number}
+use Rattle.esa_params.specs.declared.slot.Op.{Op}
 use Rattle.esa_params.specs.declared.slot.Op.TheVariants.{Read as Reads, Write as Writes}
 use Rattle.esa_params.specs.declared.slot.Region.TheVariants.{Input}
 use Rattle.esa_report.specs.declared.item.Item.{Item}
@@ -18,9 +20,10 @@ use Rattle.esa_spec.specs.Traces.{chunk_slot}
 use Rattle.esa_spec.specs.declared.event.Event.{Event}
 use Rattle.esa_spec.specs.declared.event.Event.TheVariants.{Claim, Read, Exchange, Write, Done, Idle}
 use Rattle.esa_vault.specs.Items.{item_of}
-use Rattle.esa_vault.specs.Traffic.{GivesLatest}
+use Rattle.esa_vault.specs.Seals.{is_text_of, opens, text_in}
+use Rattle.esa_vault.specs.Traffic.{GivesLatest, IsOpenedTo, IsRead}
 use Rattle.esa_vault.specs.declared.fault.VaultFault.{VaultFault}
-use Rattle.esa_floor.specs.Keeping.{AreRecords, HasInput, IsInput, OpensTo}
+use Rattle.esa_floor.specs.Keeping.{AreRecords, HasInput, HasText, IsInput, OpensTo}
 use Rattle.esa_floor.specs.Logging.{noted_of, read_of, write_of}
 use Rattle.esa_floor.specs.Parts.{Parts}
 use Rattle.esa_floor.specs.Private.{envelope_at, item_opened}
@@ -28,11 +31,34 @@ use Rattle.esa_floor.specs.Working.{Working}
 use Rattle.esa_floor.specs.declared.turn.Stop.{Stop}
 use Rattle.esa_floor.proofs.Counting.{ends_before}
 
+-- bytes that open have a text
+text_there : (o : Option (List ℕ)) (suits : List ℕ → Bool) (before text : List ℕ) → option_map_or suits o false ≡ true → text ≡ unwrap_or o before → o ≡ Some text
+text_there None suits before text opened is = absurd (cc opened)
+text_there (Some there) suits before text opened is = ap Some (sym is)
+
 -- a read that opened gave the text
-pub opens_ok : {V T : Type 0} (p : Sizes) (run : Keys) (a j : ℕ) (text : List ℕ) (old new : Recorded V) (result : Result T VaultFault)
+opens_here : {V T : Type 0} (told : V → Option (List (List ℕ))) (faults : V → ℕ) (last_call : V → Option (Op × ℕ)) (p : Sizes) (run : Keys) (a j : ℕ) (bytes before text : List ℕ) (old new : Recorded V) (result : Result T VaultFault)
+    → IsRead told faults last_call p (at Input j) a (opens p run (at Input j) a 0) bytes old new result
+    → IsOpenedTo p run (at Input j) a bytes before (take (plain_length p Input j) text) result
     → GivesLatest p run (at Input j) a 0 (take (plain_length p Input j) text) old new result → OnOk result (OpensTo p run a j text old new)
-opens_ok p run a j text old new (Ok done) latest = λ sealed faithful took. (latest sealed faithful took).opened
-opens_ok p run a j text old new (Err fault) latest = tt
+opens_here told faults last_call p run a j bytes before text old new (Ok done) read opened latest =
+    let there : opens p run (at Input j) a 0 bytes ≡ true = subst (λ (given : List ℕ). opens p run (at Input j) a 0 given ≡ true) read.given read.answer.0 in
+    record {
+      given = subst (λ (given : List ℕ). HasText p run a j given text) (sym read.given)
+          (text_there (text_in p run (at Input j) a bytes) (is_text_of p Input 0) before (take (plain_length p Input j) text) there opened.given);
+      latest = λ sealed faithful took. (latest sealed faithful took).opened;
+    }
+opens_here told faults last_call p run a j bytes before text old new (Err fault) read opened latest = tt
+
+-- the same where the text has so many bytes
+pub opens_ok : {V T : Type 0} (told : V → Option (List (List ℕ))) (faults : V → ℕ) (last_call : V → Option (Op × ℕ)) (p : Sizes) (run : Keys) (a j n : ℕ) (bytes before text : List ℕ) (old new : Recorded V) (result : Result T VaultFault)
+    → IsRead told faults last_call p (at Input j) a (opens p run (at Input j) a 0) bytes old new result
+    → IsOpenedTo p run (at Input j) a bytes before (take n text) result
+    → GivesLatest p run (at Input j) a 0 (take n text) old new result → n ≡ plain_length p Input j → OnOk result (OpensTo p run a j text old new)
+opens_ok told faults last_call p run a j n bytes before text old new result read opened latest is =
+    opens_here told faults last_call p run a j bytes before text old new result read
+    (subst (λ (n : ℕ). IsOpenedTo p run (at Input j) a bytes before (take n text) result) is opened)
+    (subst (λ (n : ℕ). GivesLatest p run (at Input j) a 0 (take n text) old new result) is latest)
 
 module _ (p : Sizes) (outer run : Keys) (record_of : ℕ → Item) where
   one_before : (log : List Carried) (last : Carried) → ((j : ℕ) → j < p.b → writes_number p (number_of p (at Input j)) last.access ≡ false)
@@ -91,7 +117,7 @@ pub read_holds : {V C : Type 0} (f new : Parts V) (w v : Working C) (a : ℕ) �
     → new.recorder.log ≡ f.recorder.log ++ read_of f.plan a w.bucket new.stop new.recorder.last ∷ []
     → OpensTo f.plan f.run a w.bucket v.buffers.text f.recorder new.recorder
     → (record_of : ℕ → Item) → HasInput new record_of → w.bucket < f.plan.b → AreRecords new.plan new.outer record_of v.bucket v.buffers.text
-read_holds f new w v a same bucket noted opens record_of input inside =
+read_holds f new w v a same bucket noted opens_to record_of input inside =
     let now : IsInput f.plan f.outer f.run record_of new.recorder.log =
     subst (λ (x : Parts _). IsInput x.plan x.outer x.run record_of new.recorder.log) same input in
     let entry = read_of f.plan a w.bucket new.stop new.recorder.last in
@@ -99,6 +125,6 @@ read_holds f new w v a same bucket noted opens record_of input inside =
     (λ k within. reads_nothing f.plan (number_of f.plan (at Input k)) (access_of f.plan a Reads (at Input w.bucket)) refl)
     (subst (IsInput f.plan f.outer f.run record_of) noted now) in
     let sealed = was.sealed w.bucket inside in
-    let there = front_records f.plan f.outer record_of w.bucket v.buffers.text sealed.0 (opens sealed.0 now.faithful sealed.1) sealed.2 in
+    let there = front_records f.plan f.outer record_of w.bucket v.buffers.text sealed.0 (opens_to.latest sealed.0 now.faithful sealed.1) sealed.2 in
     subst (λ (x : Parts _). AreRecords x.plan x.outer record_of v.bucket v.buffers.text) (sym same)
     (subst (λ (j : ℕ). AreRecords f.plan f.outer record_of j v.buffers.text) (sym bucket) there)

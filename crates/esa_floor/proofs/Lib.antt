@@ -2,8 +2,10 @@ mod Acting
 pub mod Chunking
 mod Counting
 mod Dealing
+pub mod Doing
 mod Exchanging
 pub mod Failing
+pub mod Faulting
 mod Fitting
 pub mod Giving
 mod Holding

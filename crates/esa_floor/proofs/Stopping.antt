@@ -63,7 +63,7 @@ module _ (p : Sizes) (run : Keys) (a : ℕ) (d : Draw) (record_of : ℕ → Item
   still_stored Idle is s given chunks before = subst (AreChunksStored p run a d record_of h) (sym (append-nil log)) before
 
 -- the room of a history has no part in why turns stopped
-roomy : {V : Type 0} (faults : V → ℕ) (d : Draw) (a : ℕ) (f : Parts V) (room done : ℕ) (s : Option Stop) → StopsAt faults d a f done s
+pub roomy : {V : Type 0} (faults : V → ℕ) (d : Draw) (a : ℕ) (f : Parts V) (room done : ℕ) (s : Option Stop) → StopsAt faults d a f done s
     → StopsAt faults d a (record f { room = room }) done s
 roomy faults d a f room done None why = why
 roomy faults d a f room done (Some (stop.StashOverflow j)) why = why

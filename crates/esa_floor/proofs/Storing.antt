@@ -211,7 +211,7 @@ module _ {V C : Type 0} (f new : Parts V) (n room : ℕ) (w v : Working C) (faul
     (idle : f.attempt ≡ None → new ≡ f) (later : f.stop ≢ None → new ≡ f)
     (noted : f.attempt ≢ None → f.stop ≡ None
     → new.recorder.log ≡ f.recorder.log ++ noted_of f.plan w.run (attempt_begun f) (next f.plan.b (turns_made f) n) new.stop new.recorder.last w.buffers.chunks)
-    (leaves : f.attempt ≢ None → f.stop ≡ None → new.stop ≡ None → Leaves (next f.plan.b (turns_made f) n) f w v)
+    (leaves : f.attempt ≢ None → f.stop ≡ None → new.stop ≡ None → Leaves (next f.plan.b (turns_made f) n) new.recorder.last f w v)
     (holds : HoldsChunks ds f w) (before : SlotsHold ds f) (record_of : ℕ → Item)
   where
     abbrev after : Parts V
@@ -224,12 +224,12 @@ module _ {V C : Type 0} (f new : Parts V) (n room : ℕ) (w v : Working C) (faul
     now = attempt_begun f
 
     -- what the worker holds where the turn writes a chunk
-    held_chunks : HasInput f record_of → f.attempt ≢ None → f.stop ≡ None → (e : Event) → Leaves e f w v
+    held_chunks : HasInput f record_of → f.attempt ≢ None → f.stop ≡ None → (e : Event) → Leaves e new.recorder.last f w v
         → (j i : ℕ) → e ≡ Write j i → j < f.plan.b → AreChunks f.plan (ds now) record_of (order f.plan.b h) j w.buffers.chunks
     held_chunks input some free e left j i is inside =
-        let write = subst (λ (e : Event). Leaves e f w v) is left in
-        subst (λ (k : ℕ). AreChunks f.plan (ds now) record_of (order f.plan.b h) k w.buffers.chunks) write.1
-        (holds record_of input some free write.0 (subst (λ (k : ℕ). k < f.plan.b) (sym write.1) inside))
+        let write = subst (λ (e : Event). Leaves e new.recorder.last f w v) is left in
+        subst (λ (k : ℕ). AreChunks f.plan (ds now) record_of (order f.plan.b h) k w.buffers.chunks) write.before
+        (holds record_of input some free write.phase (subst (λ (k : ℕ). k < f.plan.b) (sym write.before) inside))
 
     pub slots_on : HasInput new record_of → new.attempt ≢ None → new.stop ≡ None
         → AreChunksStored new.plan new.run (attempt_begun after) (ds (attempt_begun after)) record_of (turns_made after) new.recorder.log

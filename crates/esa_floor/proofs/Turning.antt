@@ -30,6 +30,51 @@ abbrev pub turned : {V : Type 0} → Parts V → ℕ → Recorded V → Held →
 turned f w recorder held counts counted stopped =
     record f { history = f.history ++ w ∷ []; recorder = recorder; stash = held; counts = counts; counted = counted; stop = stopped }
 
+-- a turn after one that failed does nothing, and the turns stopped where they did
+module _ {V : Type 0} (faults : V → ℕ) (d : Draw) (f : Parts V) (a w done : ℕ) (now : Option Stop) (worker : w ≢ f.plan.workers) where
+  abbrev made : List ℕ
+  made = turns_made f
+
+  longer_by : latest f.plan.workers (f.history ++ w ∷ []) ≡ made ++ w ∷ []
+  longer_by = latest-worker f.plan.workers f.history w worker
+
+  pub stops_later : (s : Stop) → StopsAt faults d a f done (Some s)
+      → (done < length made) × StopsAt faults d a (turned f w f.recorder f.stash f.counts f.counted now) done (Some s)
+  stops_later (stop.StashOverflow j) why = (
+    why.0,
+    subst (λ (H : List ℕ). (done < length H)
+        × (event_at f.plan.b H done ≡ Exchange j)
+        × (overflows f.plan d (order f.plan.b (take done H) ++ j ∷ []) (length (order f.plan.b (take done H))) ≡ true)
+        × (faults f.recorder.device ≡ f.faults)) (sym longer_by) (
+          (let long = length-append made (w ∷ []) in let earlier = why.0 in omega arith),
+          event_at-append f.plan.b made (w ∷ []) done why.0 ∙ why.1,
+          ap (λ (g : List ℕ). overflows f.plan d (order f.plan.b g ++ j ∷ []) (length (order f.plan.b g))) (take-append-le done made (w ∷ []) (let earlier = why.0 in omega arith)) ∙ why.2,
+          why.3,
+        ),
+  )
+  stops_later (stop.DeviceFault number) why = (
+    why.0,
+    subst (λ (H : List ℕ). (done < length H)
+        × ((access : Access) × (asked f.plan a (event_at f.plan.b H done) ≡ Some access) × (slot_number f.plan access ≡ number))
+        × Rose f.faults (faults f.recorder.device)) (sym longer_by) (
+          (let long = length-append made (w ∷ []) in let earlier = why.0 in omega arith),
+          (why.1.0, ap (asked f.plan a) (event_at-append f.plan.b made (w ∷ []) done why.0) ∙ why.1.1, why.1.2),
+          why.2,
+        ),
+  )
+  stops_later (stop.Tampered number) why = (
+    why.0,
+    subst (λ (H : List ℕ). (done < length H)
+        × (event_at f.plan.b H done ≡ Read number)
+        × (opens f.plan f.run (at Input number) a 0 f.recorder.last ≡ false)
+        × (faults f.recorder.device ≡ f.faults)) (sym longer_by) (
+          (let long = length-append made (w ∷ []) in let earlier = why.0 in omega arith),
+          event_at-append f.plan.b made (w ∷ []) done why.0 ∙ why.1,
+          why.2,
+          why.3,
+        ),
+  )
+
 module _ {V : Type 0} (faults : V → ℕ) (ds : ℕ → Draw) (f : Parts V) (a w : ℕ) (at_work : IsAtWork faults ds f a) (worker : w ≢ f.plan.workers) where
   abbrev h : List ℕ
   h = turns_made f
@@ -167,47 +212,9 @@ module _ {V : Type 0} (faults : V → ℕ) (ds : ℕ → Draw) (f : Parts V) (a 
         × (faults r.device ≡ f.faults)) (sym turns_are)
         (longer, event, closed, calm ∙ all_made.1))
 
-  -- a turn after one that failed does nothing
-  later : (s : Stop) → StopsAt faults (ds a) a f at_work.done (Some s)
-      → (at_work.done < length h) × StopsAt faults (ds a) a (turned f w f.recorder f.stash f.counts f.counted (Some s)) at_work.done (Some s)
-  later (stop.StashOverflow j) why = (
-    why.0,
-    subst (λ (H : List ℕ). (at_work.done < length H)
-        × (event_at f.plan.b H at_work.done ≡ Exchange j)
-        × (overflows f.plan (ds a) (order f.plan.b (take at_work.done H) ++ j ∷ []) (length (order f.plan.b (take at_work.done H))) ≡ true)
-        × (faults f.recorder.device ≡ f.faults)) (sym turns_are) (
-          (let long = length-append h (w ∷ []) in let earlier = why.0 in omega arith),
-          event_at-append f.plan.b h (w ∷ []) at_work.done why.0 ∙ why.1,
-          ap (λ (g : List ℕ). overflows f.plan (ds a) (order f.plan.b g ++ j ∷ []) (length (order f.plan.b g))) (take-append-le at_work.done h (w ∷ []) (let earlier = why.0 in omega arith)) ∙ why.2,
-          why.3,
-        ),
-  )
-  later (stop.DeviceFault number) why = (
-    why.0,
-    subst (λ (H : List ℕ). (at_work.done < length H)
-        × ((access : Access) × (asked f.plan a (event_at f.plan.b H at_work.done) ≡ Some access) × (slot_number f.plan access ≡ number))
-        × Rose f.faults (faults f.recorder.device)) (sym turns_are) (
-          (let long = length-append h (w ∷ []) in let earlier = why.0 in omega arith),
-          (why.1.0, ap (asked f.plan a) (event_at-append f.plan.b h (w ∷ []) at_work.done why.0) ∙ why.1.1, why.1.2),
-          why.2,
-        ),
-  )
-  later (stop.Tampered number) why = (
-    why.0,
-    subst (λ (H : List ℕ). (at_work.done < length H)
-        × (event_at f.plan.b H at_work.done ≡ Read number)
-        × (opens f.plan f.run (at Input number) a 0 f.recorder.last ≡ false)
-        × (faults f.recorder.device ≡ f.faults)) (sym turns_are) (
-          (let long = length-append h (w ∷ []) in let earlier = why.0 in omega arith),
-          event_at-append f.plan.b h (w ∷ []) at_work.done why.0 ∙ why.1,
-          why.2,
-          why.3,
-        ),
-  )
-
   pub stands_later : (s : Stop) → f.stop ≡ Some s → IsAtWork faults ds (turned f w f.recorder f.stash f.counts f.counted (Some s)) a
   stands_later s stopped =
-      let why = later s (subst (λ (s : Option Stop). StopsAt faults (ds a) a f at_work.done s) stopped at_work.stops) in
+      let why = stops_later faults (ds a) f a w at_work.done (Some s) worker s (subst (λ (s : Option Stop). StopsAt faults (ds a) a f at_work.done s) stopped at_work.stops) in
       let front : take at_work.done (h ++ w ∷ []) ≡ take at_work.done h = take-append-le at_work.done h (w ∷ []) (let earlier = why.0 in omega arith) in
       let through : take (at_work.done + 1) (h ++ w ∷ []) ≡ take (at_work.done + 1) h = take-append-le (at_work.done + 1) h (w ∷ []) (let earlier = why.0 in omega arith) in
       record {

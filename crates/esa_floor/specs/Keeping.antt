@@ -1,5 +1,5 @@
 -- What a floor and its workers keep of the records of the input.
-use Rattle.std.specs.Prelude.{◌≡◌, ◌≢◌, ℕ, ◌<◌, ◌≤◌, ◌==◌, List, [], ◌∷◌, ◌++◌, length, map, take, count_by, flat_map, None}
+use Rattle.std.specs.Prelude.{◌≡◌, ◌≢◌, ℕ, ◌<◌, ◌≤◌, ◌==◌, List, [], ◌∷◌, ◌++◌, length, map, take, count_by, flat_map, Some, None}
 use Rattle.esa_device.specs.Logs.{Carried, IsFaithful, Took}
 use Rattle.esa_device.specs.Recording.{Recorded}
 use Rattle.esa_envelope.specs.declared.keys.Keys.{Keys}
@@ -17,7 +17,7 @@ use Rattle.esa_spec.specs.declared.event.Event.{Event}
 use Rattle.esa_spec.specs.declared.event.Event.TheVariants.{Claim, Read, Exchange, Write, Done, Idle}
 use Rattle.esa_stash.specs.Stash.{chunks, exchanged, padded, queue_at}
 use Rattle.esa_vault.specs.Filled.{text_of}
-use Rattle.esa_vault.specs.Seals.{sealed_block}
+use Rattle.esa_vault.specs.Seals.{sealed_block, text_in}
 use Rattle.esa_floor.specs.Exchanges.{AreOf}
 use Rattle.esa_floor.specs.Parts.{Parts}
 use Rattle.esa_floor.specs.Private.{item_opened}
@@ -39,11 +39,16 @@ pub record IsInput (p : Sizes) (outer run : Keys) (record_of : ℕ → Item) (lo
 abbrev pub HasInput : {V : Type 0} → Parts V → (ℕ → Item) → Type 0
 HasInput f record_of = IsInput f.plan f.outer f.run record_of f.recorder.log
 
--- a read of the block of bucket j opened to the text whose seal its latest write took, where the log is faithful
-abbrev pub OpensTo : {V : Type 0} → Sizes → Keys → ℕ → ℕ → List ℕ → Recorded V → Recorded V → Type 0
-OpensTo p run a j text old new =
-    (sealed : List ℕ) → IsFaithful p new.log → Took p (number_of p (at Input j)) (sealed_block p run (at Input j) a sealed) old.log
-    → take (plain_length p Input j) text ≡ sealed
+-- the bytes that a read of the block of bucket j gave open, for its slot and the attempt, to the text in a worker's buffer
+abbrev pub HasText : Sizes → Keys → ℕ → ℕ → List ℕ → List ℕ → Type 0
+HasText p run a j given text = text_in p run (at Input j) a given ≡ Some (take (plain_length p Input j) text)
+
+-- a read of the block of bucket j opened to a text: that of the bytes that it gave, and that whose seal the latest write took,
+-- where the log is faithful
+pub record OpensTo {V : Type 0} (p : Sizes) (run : Keys) (a j : ℕ) (text : List ℕ) (old new : Recorded V) : Type 0 where
+  pub given : HasText p run a j new.last text
+  pub latest : (sealed : List ℕ) → IsFaithful p new.log → Took p (number_of p (at Input j)) (sealed_block p run (at Input j) a sealed) old.log
+      → take (plain_length p Input j) text ≡ sealed
 
 -- from its read to its exchange, a worker holds envelopes of the records of its bucket, while no turn of the attempt
 -- has failed
@@ -90,14 +95,32 @@ HoldsChunks ds f w =
     (record_of : ℕ → Item) → HasInput f record_of → f.attempt ≢ None → f.stop ≡ None → 3 ≤ w.phase → w.bucket < f.plan.b
     → AreChunks f.plan (ds (attempt_begun f)) record_of (order f.plan.b (turns_made f)) w.bucket w.buffers.chunks
 
--- what a turn with this event that did not fail leaves its worker
-abbrev pub Leaves : {V C : Type 0} → Event → Parts V → Working C → Working C → Type 0
-Leaves (Claim j) f old new = new.phase ≡ 1
-Leaves (Read j) f old new = new.phase ≡ 2
-Leaves (Exchange j) f old new = (new.bucket ≡ j) × (new.buffers.chunks ≡ chunks f.stash (handed_by old.buffers j))
-Leaves (Write j i) f old new = (3 ≤ old.phase) × (old.bucket ≡ j) × (new.bucket ≡ j) × (new.buffers.chunks ≡ old.buffers.chunks)
-Leaves Done f old new = new.phase ≡ 1
-Leaves Idle f old new = f.plan.b ≤ new.bucket
+-- a worker has read the block of bucket j: it has the text to which the bytes that were given open
+pub record HasReadBlock {V C : Type 0} (j : ℕ) (given : List ℕ) (f : Parts V) (new : Working C) : Type 0 where
+  pub phase : new.phase ≡ 2
+  pub bucket : new.bucket ≡ j
+  pub text : HasText f.plan f.run (attempt_begun f) j given new.buffers.text
+
+-- it has exchanged bucket j: it has the chunks that left the stash for the items that it handed over
+pub record HasExchangedBucket {V C : Type 0} (j : ℕ) (f : Parts V) (old new : Working C) : Type 0 where
+  pub bucket : new.bucket ≡ j
+  pub chunks_are : new.buffers.chunks ≡ chunks f.stash (handed_by old.buffers j)
+
+-- it has written a chunk of bucket j: it has its chunks as before
+pub record HasWrittenChunk {C : Type 0} (j : ℕ) (old new : Working C) : Type 0 where
+  pub phase : 3 ≤ old.phase
+  pub before : old.bucket ≡ j
+  pub bucket : new.bucket ≡ j
+  pub same : new.buffers.chunks ≡ old.buffers.chunks
+
+-- what a turn with this event that did not fail leaves its worker, by the bytes that its read gave
+abbrev pub Leaves : {V C : Type 0} → Event → List ℕ → Parts V → Working C → Working C → Type 0
+Leaves (Claim j) given f old new = new.phase ≡ 1
+Leaves (Read j) given f old new = HasReadBlock j given f new
+Leaves (Exchange j) given f old new = HasExchangedBucket j f old new
+Leaves (Write j i) given f old new = HasWrittenChunk j old new
+Leaves Done given f old new = new.phase ≡ 1
+Leaves Idle given f old new = f.plan.b ≤ new.bucket
 
 -- the block of the chunk of bucket j for the target i in attempt a, with this order of exchanges: the seal of the records
 -- of its places, with dummies behind them
@@ -138,6 +161,24 @@ pub record StopsAfter {V : Type 0} (faults : V → ℕ) (ds : ℕ → Draw) (h :
   pub failed : ℕ
   pub turns : turns_made f ≡ h ++ failed ∷ []
   pub stops : StopsAt faults (ds (attempt_begun f)) (attempt_begun f) f (length h) f.stop
+
+-- the turns h of the attempt did not fail. They are all, or the turns have stopped at the one behind them
+pub record StopsBehind {V : Type 0} (faults : V → ℕ) (ds : ℕ → Draw) (h : List ℕ) (f : Parts V) : Type 0 where
+  pub behind : List ℕ
+  pub turns : turns_made f ≡ h ++ behind
+  pub stops : StopsAt faults (ds (attempt_begun f)) (attempt_begun f) f (length h) f.stop
+
+-- what the queues and the slots hold by the turns that are done, however the turns of the attempt have stopped. A write that
+-- failed is none of these turns, and so is left out with its slot
+pub record HoldsDone {V : Type 0} (faults : V → ℕ) (ds : ℕ → Draw) (f : Parts V) : Type 0 where
+  pub done : List ℕ
+  pub stops : StopsBehind faults ds done f
+  pub queues : QueuesHoldAfter ds done f
+  pub slots : SlotsHoldAfter ds done f
+
+-- so it is while an attempt is at work
+abbrev pub KeepsDone : {V : Type 0} → (V → ℕ) → (ℕ → Draw) → Parts V → Type 0
+KeepsDone faults ds f = f.attempt ≢ None → HoldsDone faults ds f
 
 -- a worker holds what it held after the turns h of the attempt: envelopes of the records of its bucket, from its read to
 -- its exchange, and from then to the end of its round the chunks of its bucket

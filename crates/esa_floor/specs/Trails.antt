@@ -9,10 +9,10 @@ use Rattle.esa_params.specs.declared.slot.Region.{Region}
 use Rattle.esa_params.specs.declared.slot.Region.TheVariants.{Input, Mid, Tail, Output}
 use Rattle.esa_report.specs.declared.item.Item.{Item}
 use Rattle.esa_spec.specs.Draws.{Draw}
-use Rattle.esa_floor.specs.Keeping.{QueuesHold, SlotsHold}
+use Rattle.esa_floor.specs.Keeping.{KeepsDone}
 use Rattle.esa_floor.specs.Parts.{Parts}
 use Rattle.esa_floor.specs.Standing.{Stands}
-use Rattle.esa_floor.specs.Written.{AreItems, EachTookItsBlock, FailedByStop, ReadsGaveTheirBlocks}
+use Rattle.esa_floor.specs.Written.{AreItems, EachTookItsBlock, FailedAtItsEnd, GaveUpToItsEnd}
 
 abbrev pub op_code : Op → ℕ
 op_code Read = 0
@@ -36,13 +36,13 @@ entry_text e = op_code e.access.op ∷ region_code e.access.region ∷ e.access.
 abbrev pub trail_of : {V : Type 0} → Parts V → List (List ℕ)
 trail_of f = map entry_text f.recorder.log
 
--- the floor stands, its log has an entry for each access, and its queues and slots hold the records of the input. Each write
--- took its block, and no access failed but the last one, where the turns have stopped at it. So each read gave its block
+-- the floor stands, its log has an entry for each access, and its queues and slots hold the records of the input by the turns
+-- that are done. Each write took its block, and no access failed but the last one, where the turns have stopped or the run has
+-- ended at it. So each read gave its block
 pub record IsKept {V : Type 0} (faults : V → ℕ) (p : Sizes) (ds : ℕ → Draw) (f : Parts V) : Type 0 where
   pub stands : Stands faults p ds f
   pub logged : map (λ (entry : Carried). entry.access) f.recorder.log ≡ f.recorder.trace
-  pub queues : QueuesHold ds f
-  pub slots : SlotsHold ds f
+  pub done : KeepsDone faults ds f
   pub took : (record_of : ℕ → Item) → AreItems (item_length p.form) record_of → EachTookItsBlock ds record_of f
-  pub failed : FailedByStop f.stop f.recorder.log
-  pub reads : ReadsGaveTheirBlocks ds f
+  pub failed : FailedAtItsEnd f
+  pub reads : GaveUpToItsEnd ds f

@@ -1,10 +1,10 @@
 -- What the writes of a run took, of every attempt: the seals of the records of their blocks. And what its reads gave:
 -- blocks that open.
-use Rattle.std.specs.Prelude.{◌≡◌, ◌≢◌, ℕ, ◌+◌, ◌/◌, ◌%◌, ◌<◌, ◌≤◌, ◌==◌, true, List, [], ◌∷◌, ◌++◌, All, Option, Some, None, Result, Ok, Err, count_by, length, map, slice_index_or}
+use Rattle.std.specs.Prelude.{◌≡◌, ◌≢◌, ℕ, ◌+◌, ◌/◌, ◌%◌, ◌<◌, ◌≤◌, ◌==◌, true, List, [], All, Option, Some, None, Result, Ok, Err, count_by, length, map, slice_index_or}
 use Rattle.esa_device.specs.Logs.{Carried, NoneFailed, OnlyLastFailed, latest_carried}
 use Rattle.esa_envelope.specs.declared.keys.Keys.{Keys}
 use Rattle.esa_params.specs.Sizes.{Sizes}
-use Rattle.esa_params.specs.Slots.{IsPlanned, at, item_length, number_of}
+use Rattle.esa_params.specs.Slots.{IsPlanned, at, item_length, number_of, slot_number}
 use Rattle.esa_params.specs.declared.slot.Access.{Access}
 use Rattle.esa_params.specs.declared.slot.Op.TheVariants.{Read as Reads, Write as Writes}
 use Rattle.esa_params.specs.declared.slot.Region.{Region}
@@ -23,6 +23,8 @@ use Rattle.esa_vault.specs.Placed.{IsHeld, IsSpelled}
 use Rattle.esa_vault.specs.Seals.{opens, sealed_block}
 use Rattle.esa_floor.specs.Keeping.{HasInput}
 use Rattle.esa_floor.specs.Parts.{Parts}
+use Rattle.esa_floor.specs.declared.turn.Outcome.{Outcome}
+use Rattle.esa_floor.specs.declared.turn.Outcome.TheVariants as outcome
 use Rattle.esa_floor.specs.declared.turn.Stop.{Stop}
 use Rattle.esa_floor.specs.declared.turn.Stop.TheVariants.{DeviceFault, StashOverflow, Tampered}
 
@@ -138,3 +140,36 @@ FailedByStop None log = NoneFailed log
 FailedByStop (Some (DeviceFault number)) log = OnlyLastFailed log
 FailedByStop (Some (Tampered number)) log = NoneFailed log
 FailedByStop (Some (StashOverflow j)) log = NoneFailed log
+
+-- no access of a log failed but the last one, which was to the slot of this number
+pub record OnlyFailedAt (p : Sizes) (number : ℕ) (log : List Carried) : Type 0 where
+  pub only : OnlyLastFailed log
+  pub slot : slot_number p only.access ≡ number
+
+-- which accesses failed, by how the run ended, or else by the stop: none, or the last one, at the slot where the device failed
+abbrev pub FailedBy : Sizes → Option Outcome → Option Stop → List Carried → Type 0
+FailedBy p None None log = NoneFailed log
+FailedBy p None (Some (DeviceFault number)) log = OnlyFailedAt p number log
+FailedBy p None (Some (Tampered number)) log = NoneFailed log
+FailedBy p None (Some (StashOverflow j)) log = NoneFailed log
+FailedBy p (Some (outcome.Shuffled a)) s log = NoneFailed log
+FailedBy p (Some outcome.Overflow) s log = NoneFailed log
+FailedBy p (Some (outcome.DeviceFault number)) s log = OnlyFailedAt p number log
+FailedBy p (Some (outcome.Tampered number)) s log = NoneFailed log
+FailedBy p (Some outcome.BatchFailed) s log = NoneFailed log
+
+-- which reads gave their blocks, by the same: all, but the last access where the turns or the run stopped at it
+abbrev pub ReadsGaveBy : (Carried → Type 0) → Option Outcome → Option Stop → List Carried → Type 0
+ReadsGaveBy Fact None s log = ReadsGave Fact s log
+ReadsGaveBy Fact (Some (outcome.Shuffled a)) s log = All Fact log
+ReadsGaveBy Fact (Some outcome.Overflow) s log = All Fact log
+ReadsGaveBy Fact (Some (outcome.DeviceFault number)) s log = EachButLast Fact log
+ReadsGaveBy Fact (Some (outcome.Tampered number)) s log = EachButLast Fact log
+ReadsGaveBy Fact (Some outcome.BatchFailed) s log = All Fact log
+
+-- so it is with the log of a floor
+abbrev pub FailedAtItsEnd : {V : Type 0} → Parts V → Type 0
+FailedAtItsEnd f = FailedBy f.plan f.outcome f.stop f.recorder.log
+
+abbrev pub GaveUpToItsEnd : {V : Type 0} → (ℕ → Draw) → Parts V → Type 0
+GaveUpToItsEnd ds f = ReadsGaveBy (GaveItsOwn ds f) f.outcome f.stop f.recorder.log

@@ -11,12 +11,12 @@ ghost use Rattle.esa_spec.specs.Turns.{held, next, next_phase};
 ghost use Rattle.esa_stash.specs.Stash.{chunks as chunks_of, empty_stash, padded, queue_at, without};
 ghost use Rattle.esa_vault.specs.Seals.{opens};
 ghost use Rattle.esa_floor.specs.Acts.{StopsBy, StopsReading, WorksOn, answer_in, answer_of, counted_after};
-ghost use Rattle.esa_floor.specs.Keeping.{Deals, HoldsAfter, HoldsChunks, HoldsRecords, IsDealt, Leaves, OpensTo, QueuesHold, QueuesHoldAfter, SlotsHold, SlotsHoldAfter, StopsAfter};
+ghost use Rattle.esa_floor.specs.Keeping.{Deals, HoldsAfter, HoldsChunks, HoldsRecords, IsDealt, KeepsDone, Leaves, OpensTo, QueuesHold, QueuesHoldAfter, SlotsHold, SlotsHoldAfter, StopsAfter};
 ghost use Rattle.esa_floor.specs.Logging.{noted_of, read_of, write_of};
 ghost use Rattle.esa_floor.specs.Marks.{mark_of, roots_of};
 ghost use Rattle.esa_floor.specs.Workers.{IsInRound, IsOfFloor, WorkerStands, moved};
 ghost use Rattle.esa_floor.specs.Working.{IsReady, Working, handed_by, passed};
-ghost use Rattle.esa_floor.specs.Written.{EachTookItsBlock, FailedByStop, ReadsGaveTheirBlocks};
+ghost use Rattle.esa_floor.specs.Written.{EachTookItsBlock, FailedAtItsEnd, FailedByStop, GaveUpToItsEnd, ReadsGaveTheirBlocks};
 ghost use Rattle.esa_floor.specs.Parts.{begun_as, count_at, ended_as, no_counts, nothing_counted, with_entry};
 ghost use Rattle.esa_floor.specs.Standing.{IsAtWork, Stands, StopsAt, attempt_begun, turns_made};
 
@@ -505,7 +505,7 @@ impl<V: Device, G: Told> Floor<V, G> {
         ensures few { length self.new.recorder.trace ≤ length self.old.recorder.trace + 1 }
         ensures access { self.new.recorder.trace ≡ self.old.recorder.trace ++ option_to_list (asked self.old.plan (attempt_begun self.old) (next self.old.plan.b (turns_made self.old) worker.old.number)) }
         ensures holds { HoldsRecords self.new worker.new }
-        ensures leaves { self.new.stop ≡ None → Leaves (next self.old.plan.b (turns_made self.old) worker.old.number) self.old worker.old worker.new }
+        ensures leaves { self.new.stop ≡ None → Leaves (next self.old.plan.b (turns_made self.old) worker.old.number) self.new.recorder.last self.old worker.old worker.new }
         ensures failed { self.new.stop ≢ None → self.new.stash ≡ self.old.stash }
         ensures deals { self.new.stop ≡ None → Deals (C.target_list worker.old.coins) (next self.old.plan.b (turns_made self.old) worker.old.number) self.old self.new worker.old }
         ensures reads { StopsBy self.old.plan self.old.run (attempt_begun self.old) (next self.old.plan.b (turns_made self.old) worker.old.number) self.new.recorder.last (V.faults self.old.recorder.device) (V.faults self.new.recorder.device) self.new.stop }
@@ -549,7 +549,7 @@ impl<V: Device, G: Told> Floor<V, G> {
         ensures few { length self.new.recorder.trace ≤ length self.old.recorder.trace + 1 }
         ensures access { self.new.recorder.trace ≡ self.old.recorder.trace ++ option_to_list (asked self.old.plan (attempt_begun self.old) (next self.old.plan.b (turns_made self.old) worker.old.number)) }
         ensures holds { HoldsRecords self.new worker.new }
-        ensures leaves { self.new.stop ≡ None → Leaves (next self.old.plan.b (turns_made self.old) worker.old.number) self.old worker.old worker.new }
+        ensures leaves { self.new.stop ≡ None → Leaves (next self.old.plan.b (turns_made self.old) worker.old.number) self.new.recorder.last self.old worker.old worker.new }
         ensures failed { self.new.stop ≢ None → self.new.stash ≡ self.old.stash }
         ensures deals { self.new.stop ≡ None → Deals (C.target_list worker.old.coins) (next self.old.plan.b (turns_made self.old) worker.old.number) self.old self.new worker.old }
         ensures reads { StopsBy self.old.plan self.old.run (attempt_begun self.old) (next self.old.plan.b (turns_made self.old) worker.old.number) self.new.recorder.last (V.faults self.old.recorder.device) (V.faults self.new.recorder.device) self.new.stop }
@@ -579,7 +579,7 @@ impl<V: Device, G: Told> Floor<V, G> {
         ensures few { length self.new.recorder.trace ≤ length self.old.recorder.trace + 1 }
         ensures access { self.old.attempt ≢ None → self.old.stop ≡ None → self.new.recorder.trace ≡ self.old.recorder.trace ++ option_to_list (asked self.old.plan (attempt_begun self.old) (next self.old.plan.b (turns_made self.old) worker.old.number)) }
         ensures holds { HoldsRecords self.new worker.new }
-        ensures leaves { self.old.attempt ≢ None → self.old.stop ≡ None → self.new.stop ≡ None → Leaves (next self.old.plan.b (turns_made self.old) worker.old.number) self.old worker.old worker.new }
+        ensures leaves { self.old.attempt ≢ None → self.old.stop ≡ None → self.new.stop ≡ None → Leaves (next self.old.plan.b (turns_made self.old) worker.old.number) self.new.recorder.last self.old worker.old worker.new }
         ensures deals { self.old.attempt ≢ None → self.old.stop ≡ None → self.new.stop ≡ None → Deals (C.target_list worker.old.coins) (next self.old.plan.b (turns_made self.old) worker.old.number) self.old self.new worker.old }
         ensures reads { self.old.attempt ≢ None → self.old.stop ≡ None → StopsBy self.old.plan self.old.run (attempt_begun self.old) (next self.old.plan.b (turns_made self.old) worker.old.number) self.new.recorder.last (V.faults self.old.recorder.device) (V.faults self.new.recorder.device) self.new.stop }
         ensures log { self.old.attempt ≢ None → self.old.stop ≡ None → self.new.recorder.log ≡ self.old.recorder.log ++ noted_of self.old.plan worker.old.run (attempt_begun self.old) (next self.old.plan.b (turns_made self.old) worker.old.number) self.new.stop self.new.recorder.last worker.old.buffers.chunks }
@@ -633,7 +633,7 @@ impl<V: Device, G: Told> Floor<V, G> {
 
         // Whatever the log: what a turn that did not fail leaves its worker and makes of the stash, that a turn that fails
         // leaves the stash, and that a read stops exactly where its device failed or the bytes that it gave don't open.
-        ensures leaves { self.old.attempt ≢ None → self.old.stop ≡ None → self.new.stop ≡ None → Leaves (next self.old.plan.b (turns_made self.old) worker.old.number) self.old worker.old worker.new }
+        ensures leaves { self.old.attempt ≢ None → self.old.stop ≡ None → self.new.stop ≡ None → Leaves (next self.old.plan.b (turns_made self.old) worker.old.number) self.new.recorder.last self.old worker.old worker.new }
         ensures deals { self.old.attempt ≢ None → self.old.stop ≡ None → self.new.stop ≡ None → Deals (C.target_list worker.old.coins) (next self.old.plan.b (turns_made self.old) worker.old.number) self.old self.new worker.old }
         ensures stash { self.new.stop ≢ None → self.new.stash ≡ self.old.stash }
         ensures opens { self.old.attempt ≢ None → self.old.stop ≡ None → StopsBy self.old.plan self.old.run (attempt_begun self.old) (next self.old.plan.b (turns_made self.old) worker.old.number) self.new.recorder.last (V.faults self.old.recorder.device) (V.faults self.new.recorder.device) self.new.stop }
@@ -654,6 +654,10 @@ impl<V: Device, G: Told> Floor<V, G> {
         // Each read gave bytes that open, but the last access, where the stop is that it failed or that they don't.
         ensures reads { ReadsGaveTheirBlocks G.draws self.old → ReadsGaveTheirBlocks G.draws self.new }
 
+        // So it is by how the run has ended, if it has, or by the stop, which name the slot of the access that failed.
+        ensures failed_at_end { FailedAtItsEnd self.old → FailedAtItsEnd self.new }
+        ensures reads_up_to_end { GaveUpToItsEnd G.draws self.old → GaveUpToItsEnd G.draws self.new }
+
         // Where this turn fails, the turns stop at it, and the queues and the slots hold what those before it made.
         ensures stops { self.old.attempt ≢ None → self.old.stop ≡ None → self.new.stop ≢ None → StopsAfter V.faults G.draws (turns_made self.old) self.new }
         ensures queues_before { self.old.attempt ≢ None → self.old.stop ≡ None → self.new.stop ≢ None → QueuesHold G.draws self.old
@@ -665,6 +669,9 @@ impl<V: Device, G: Told> Floor<V, G> {
         ensures others_before { (other : Working C) → self.old.attempt ≢ None → self.old.stop ≡ None → self.new.stop ≢ None → HoldsRecords self.old other
             → HoldsChunks G.draws self.old other → HoldsAfter G.draws (turns_made self.old) self.new other }
         ensures others_still { (h : List ℕ) (other : Working C) → HoldsAfter G.draws h self.old other → HoldsAfter G.draws h self.new other }
+
+        // However the turns stop, the queues and the slots hold what those that are done made.
+        ensures done { HoldsRecords self.old worker.old → HoldsChunks G.draws self.old worker.old → KeepsDone V.faults G.draws self.old → KeepsDone V.faults G.draws self.new }
     {
         let turn = self.take(worker);
         self.history.push_reserved(worker.number());

@@ -9,8 +9,10 @@
 
 mod acts;
 mod buffers;
+mod crossing;
 mod exchanger;
 mod floor;
+mod kept;
 mod logged;
 mod private;
 mod slots;
@@ -18,7 +20,9 @@ mod told;
 mod turn;
 mod worker;
 
+pub use crossing::{crossed_floor, crossed_worker};
 pub use floor::{Floor, Given, History, NoFloor, Roots};
+pub use kept::ended_floors_are_kept;
 pub use slots::{
     attempts_have_their_turns, each_write_takes_its_block, latest_writes_moved_their_bytes,
     latest_writes_took_their_blocks,

@@ -1,5 +1,5 @@
 -- A floor that was loaded, and one whose load failed, behind the entries that came before the run.
-use Rattle.std.proofs.Common.{◌≡◌, inl, ℕ, zero, suc, ◌+◌, ◌<◌, ◌≤◌, List, [], ◌∷◌, ◌++◌, length, map, drop, All, Option, Some, None, refl, sym, ap, ◌∙◌, subst, arith, length-append}
+use Rattle.std.proofs.Common.{◌≡◌, ℕ, zero, suc, ◌+◌, ◌<◌, ◌≤◌, List, [], ◌∷◌, ◌++◌, length, map, drop, All, Option, Some, None, refl, sym, ap, ◌∙◌, subst, arith, length-append}
 use mathlib.Core.List.{IsPrefix}
 use Rattle.std.proofs.lemmas.List.{drop_all}
 use Rattle.std.proofs.lemmas.List.Elements.{All-nil}
@@ -17,12 +17,12 @@ use Rattle.esa_floor.specs.Marks.{mark_of, roots_of}
 use Rattle.esa_floor.specs.Parts.{Parts, ended_as}
 use Rattle.esa_floor.specs.Standing.{EndsAs, IsAt, IsNew, Stands, lists_before}
 use Rattle.esa_floor.specs.Trails.{IsKept, entry_text, trail_of}
-use Rattle.esa_floor.specs.Written.{FailedByStop, GaveItsOwn, IsOfInput, ReadsGave}
+use Rattle.esa_floor.specs.Written.{GaveItsOwn, IsOfInput}
 use Rattle.esa_floor.specs.declared.floor.Roots.{Roots}
 use Rattle.esa_floor.specs.declared.turn.Outcome.{Outcome}
 use Rattle.esa_floor.specs.declared.turn.Outcome.TheVariants as outcome
-use Rattle.esa_floor.specs.declared.turn.Stop.{Stop}
 use Rattle.esa_floor.proofs.Failing.{Moved}
+use Rattle.esa_floor.proofs.Faulting.{each_gave, none_failed}
 use Rattle.esa_floor.proofs.Writing.{took-input}
 use Rattle.esa_shuffle.specs.Loading.{IsOfLoad, IsUnbegun}
 use Rattle.esa_shuffle.specs.Records.{IsShuffledFrom}
@@ -71,11 +71,10 @@ module _ {V : Type 0} (faults : V → ℕ) (p : Sizes) (ds : ℕ → Draw) (f : 
   kept_unbegun logged = record {
     stands = stands;
     logged = logged;
-    queues = λ record_of input some. absurd (some new.1);
-    slots = λ record_of input some. absurd (some new.1);
+    done = λ some. absurd (some new.1);
     took = λ record_of items. took-input ds record_of f (subst (All (IsOfInput f.plan)) (sym (no_log logged)) (All-nil (IsOfInput f.plan)));
-    failed = subst (λ (s : Option Stop). FailedByStop s f.recorder.log) (sym new.2.runs) (subst NoneFailed (sym (no_log logged)) (All-nil Moved));
-    reads = subst (λ (s : Option Stop). ReadsGave (GaveItsOwn ds f) s f.recorder.log) (sym new.2.runs) (subst (All (GaveItsOwn ds f)) (sym (no_log logged)) (All-nil (GaveItsOwn ds f)));
+    failed = none_failed ds f new.0 new.2.runs (subst NoneFailed (sym (no_log logged)) (All-nil Moved));
+    reads = each_gave ds f new.0 new.2.runs (subst (All (GaveItsOwn ds f)) (sym (no_log logged)) (All-nil (GaveItsOwn ds f)));
   }
 
 -- what begins nothing begins everything
@@ -136,12 +135,12 @@ module _ {V : Type 0} (faults : V → ℕ) (p : Sizes) (ds : ℕ → Draw) (f : 
   stored outcome.Overflow never = absurd never
   stored (outcome.Tampered number) never = absurd never
 
-  none_failed : (x : Outcome) → IsOfLoad x → failed_of x (length (lists_ended p alone)) ≡ 0
-  none_failed (outcome.DeviceFault number) load = let long = ap length empty in omega (arith, long)
-  none_failed outcome.BatchFailed load = let long = ap length empty in omega (arith, long)
-  none_failed (outcome.Shuffled a) never = absurd never
-  none_failed outcome.Overflow never = absurd never
-  none_failed (outcome.Tampered number) never = absurd never
+  none_left : (x : Outcome) → IsOfLoad x → failed_of x (length (lists_ended p alone)) ≡ 0
+  none_left (outcome.DeviceFault number) load = let long = ap length empty in omega (arith, long)
+  none_left outcome.BatchFailed load = let long = ap length empty in omega (arith, long)
+  none_left (outcome.Shuffled a) never = absurd never
+  none_left outcome.Overflow never = absurd never
+  none_left (outcome.Tampered number) never = absurd never
 
   pub load_failed : (before now : ℕ) (failures : List Verdict) → IsOfLoad o → IsCounted f.plan.b (length f.recorder.trace) before now o → failures ≡ []
       → MayEnd faults p ds (lists_ended p (behind (length f.history) f)) before now (behind (length f.history) f) failures o
@@ -152,7 +151,7 @@ module _ {V : Type 0} (faults : V → ℕ) (p : Sizes) (ds : ℕ → Draw) (f : 
         room = let few = entries in omega (arith, few);
         history = ap (history_of p) (sym empty);
         turns = stored o load;
-        failed = no_failures ∙ ap (λ (n : ℕ). map (verdict_in p ds (lists_ended p alone)) (below n)) (sym (none_failed o load));
+        failed = no_failures ∙ ap (λ (n : ℕ). map (verdict_in p ds (lists_ended p alone)) (below n)) (sym (none_left o load));
         batch = subst (λ (q : Sizes). IsCounted q.b (length f.recorder.trace) before now o) stands.of.plan counted;
       })
 

@@ -1,5 +1,5 @@
 -- No access of a drain or of a compression failed but the last one.
-use Rattle.std.proofs.Common.{◌≡◌, ℕ, List, [], ◌∷◌, ◌++◌, map, Option, Some, None, Result, Ok, Err, sym, ◌∙◌, subst, append_assoc}
+use Rattle.std.proofs.Common.{ℕ, List, [], ◌∷◌, ◌++◌, map, Option, Some, Result, Ok, Err, sym, ◌∙◌, subst, append_assoc}
 use Rattle.std.proofs.lemmas.List.Elements.{All-append, All-map, All-push}
 use Rattle.esa_device.specs.Logs.{Carried, NoneFailed, OnlyLastFailed}
 use Rattle.esa_device.specs.Recording.{Recorded}

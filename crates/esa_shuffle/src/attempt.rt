@@ -1,7 +1,7 @@
 //! One attempt of a run.
 
-ghost use Rattle.std.specs.Prelude.{◌≡◌, ℕ, ◌+◌, ◌<◌, ◌≤◌, All, None, Ok, length, map};
-ghost use Rattle.esa_device.specs.Logs.{Carried, IsFaithful, NoneFailed};
+ghost use Rattle.std.specs.Prelude.{◌≡◌, ℕ, ◌+◌, ◌<◌, ◌≤◌, All, None, Ok, length};
+ghost use Rattle.esa_device.specs.Logs.{IsFaithful, NoneFailed};
 ghost use Rattle.esa_crew.specs.Posts.{AreMembers};
 ghost use Rattle.esa_floor.specs.Keeping.{HasInput};
 ghost use Rattle.esa_floor.specs.Marks.{roots_of};
@@ -23,14 +23,6 @@ use esa_floor::{Floor, Told, Worker};
 use esa_press::Press;
 use esa_spec::{Coins, Verdict};
 use esa_vault::VaultFault;
-
-/// The log of a floor's recorder has an entry for each access. Nothing changes.
-fn keep_log<V: Device, G: Told>(floor: &mut Floor<V, G>)
-    ensures same { floor.new ≡ floor.old }
-    ensures accesses { map (λ (entry : Carried). entry.access) floor.old.recorder.log ≡ floor.old.recorder.trace }
-{
-    floor.recorder().keeps_its_log();
-}
 
 /// Makes an attempt: it is begun, takes the turns of a list that was handed in, completed, and is drained and compressed.
 pub(crate) fn make_attempt<V: Device, G: Told, C: Coins>(
@@ -74,9 +66,9 @@ pub(crate) fn make_attempt<V: Device, G: Told, C: Coins>(
     ensures plan { press.new.plan ≡ press.old.plan }
     ensures run { press.new.run ≡ press.old.run }
 {
-    keep_log(floor);
+    floor.keeps_its_log();
     begin(floor, workers, attempt);
     replay(floor, workers, turns);
-    keep_log(floor);
+    floor.keeps_its_log();
     finish(floor, press, coins, attempt)
 }

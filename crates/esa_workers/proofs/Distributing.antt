@@ -5,7 +5,7 @@ use Rattle.std.proofs.Math.Nat.{mul-le-mul_right}
 use Rattle.esa_laws.proofs.FinishLaws.{turns_of-append}
 use Rattle.esa_laws.proofs.HistoryLaws.{begun-owner, latest-owner}
 use Rattle.esa_device.specs.Logs.{Carried, IsFaithful, NoneFailed}
-use Rattle.esa_floor.specs.Keeping.{HasInput, QueuesHold, SlotsHold}
+use Rattle.esa_floor.specs.Keeping.{HasInput, KeepsDone}
 use Rattle.esa_report.specs.declared.item.Item.{Item}
 use Rattle.esa_params.specs.Sizes.{Sizes}
 use Rattle.esa_params.specs.Slots.{item_length}
@@ -17,10 +17,10 @@ use Rattle.esa_floor.specs.Standing.{Stands, attempt_begun, turns_made}
 use Rattle.esa_floor.specs.Trails.{IsKept, trail_of}
 use Rattle.esa_floor.specs.Workers.{IsOfFloor}
 use Rattle.esa_floor.specs.Working.{IsReady, Working}
-use Rattle.esa_floor.specs.Written.{AreItems, EachGaveItsBlock, EachTookItsBlock, FailedByStop, ReadsGaveTheirBlocks}
-use Rattle.esa_floor.proofs.Queueing.{queues_begun}
+use Rattle.esa_floor.specs.Written.{AreItems, EachGaveItsBlock, EachTookItsBlock, FailedAtItsEnd, GaveUpToItsEnd}
+use Rattle.esa_floor.proofs.Doing.{done_begun}
+use Rattle.esa_floor.proofs.Faulting.{each_gave, goes_on_in, none_failed}
 use Rattle.esa_floor.proofs.Resting.{working}
-use Rattle.esa_floor.proofs.Storing.{slots_begun}
 use Rattle.esa_floor.proofs.Trailing.{log_begins}
 use Rattle.esa_floor.proofs.Giving.{gave-begun}
 use Rattle.esa_floor.proofs.Writing.{took-begun}
@@ -130,14 +130,13 @@ pub kept_begun : {V : Type 0} (faults : V → ℕ) (p : Sizes) (ds : ℕ → Dra
     → map (λ (entry : Carried). entry.access) begun_f.recorder.log ≡ begun_f.recorder.trace
     → ((record_of : ℕ → Item) → AreItems (item_length p.form) record_of → EachTookItsBlock ds record_of f) → NoneFailed f.recorder.log
     → EachGaveItsBlock ds f → IsKept faults p ds begun_f
-kept_begun faults p ds f begun_f a is stands logged took none gave = record {
+kept_begun faults p ds f begun_f a is stands logged took none gave = let goes_on = goes_on_in faults p ds (begun_as f a) (subst (Stands faults p ds) is stands) (λ never. absurd (cc never)) in record {
   stands = stands;
   logged = logged;
-  queues = subst (λ (x : Parts _). QueuesHold ds x) (sym is) (queues_begun ds f a);
-  slots = subst (λ (x : Parts _). SlotsHold ds x) (sym is) (slots_begun ds f a);
+  done = subst (KeepsDone faults ds) (sym is) (done_begun faults ds f p a (subst (Stands faults p ds) is stands));
   took = λ record_of items. subst (λ (x : Parts _). EachTookItsBlock ds record_of x) (sym is) (took-begun ds record_of f a (took record_of items));
-  failed = subst (λ (x : Parts _). FailedByStop x.stop x.recorder.log) (sym is) none;
-  reads = subst (λ (x : Parts _). ReadsGaveTheirBlocks ds x) (sym is) (gave-begun ds f a gave);
+  failed = subst FailedAtItsEnd (sym is) (none_failed ds (begun_as f a) goes_on refl none);
+  reads = subst (GaveUpToItsEnd ds) (sym is) (each_gave ds (begun_as f a) goes_on refl (gave-begun ds f a gave));
 }
 
 -- the posts rested, were told, have worked, and were heard

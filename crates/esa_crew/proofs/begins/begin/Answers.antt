@@ -1,8 +1,9 @@
 -- One worker more has begun.
 use Rattle.std.proofs.Common.{◌<◌, length, length-set, sym, ◌∙◌, subst, arith}
-use Rattle.esa_floor.specs.Keeping.{QueuesHold, SlotsHold}
+use Rattle.esa_floor.specs.Keeping.{KeepsDone, QueuesHold, SlotsHold}
 use Rattle.esa_floor.specs.Parts.{Parts}
 use Rattle.esa_floor.specs.Written.{EachGaveItsBlock, EachTookItsBlock}
+use Rattle.esa_floor.proofs.Doing.{done_begun}
 use Rattle.esa_floor.proofs.Giving.{gave-begun}
 use Rattle.esa_floor.proofs.Queueing.{queues_begun}
 use Rattle.esa_floor.proofs.Storing.{slots_begun}
@@ -45,6 +46,11 @@ returns-clause-queues g c =
 pub returns-clause-slots : goal.returns-clause-slots
 returns-clause-slots g c =
     subst (λ (x : Parts _). SlotsHold g.G.Told.draws x) (sym c.begin.ensures.begun) (slots_begun g.G.Told.draws c.args.floor.now c.args.attempt)
+
+pub returns-clause-done : goal.returns-clause-done
+returns-clause-done g c =
+    subst (KeepsDone g.V.Device.faults g.G.Told.draws) (sym c.begin.ensures.begun)
+    (done_begun g.V.Device.faults g.G.Told.draws c.args.floor.now g.G.Told.plan c.args.attempt c.requires.stands)
 
 pub returns-clause-took : goal.returns-clause-took
 returns-clause-took g c = λ record_of took.

@@ -10,6 +10,7 @@ use Rattle.esa_spec.specs.Turns.{next, order}
 use Rattle.esa_spec.specs.Verdicts.{failing, is_finished}
 use Rattle.esa_device.specs.Logs.{Carried}
 use Rattle.esa_floor.specs.Parts.{Parts}
+use Rattle.esa_floor.proofs.Doing.{queues_done}
 use Rattle.esa_floor.specs.Standing.{attempt_begun, turns_made}
 use Rattle.esa_floor.specs.declared.floor.Roots.{Roots}
 use Rattle.esa_crew.proofs.Ending.{finishes, good, not_finished, not_stopped}
@@ -94,6 +95,7 @@ loop-made-init g c = record {
   hold = λ all queues. all;
   queues = λ all queues. queues;
   slots = λ all queues slots. slots;
+  done = λ all keeps. keeps;
   took = λ record_of all queues took. took;
   log = ([], sym (append-nil c.args.floor.now.recorder.log));
   failed = λ before. before;
@@ -131,6 +133,7 @@ loop-made-preserved g c =
       hold = λ all queues. done.hold (inv.hold all queues) (inv.queues all queues);
       queues = λ all queues. done.queues (inv.hold all queues) (inv.queues all queues);
       slots = λ all queues slots. done.slots (inv.hold all queues) (inv.slots all queues slots);
+      done = λ all keeps. done.done (inv.hold all (queues_done g.V.Device.faults g.G.Told.draws f keeps)) (inv.done all keeps);
       took = λ record_of all queues took. done.took record_of (inv.hold all queues) (inv.took record_of all queues took);
       log = (inv.log.0 ++ done.log.0, done.log.1 ∙ ap (λ (l : List Carried). l ++ done.log.0) inv.log.1 ∙ append_assoc f.recorder.log inv.log.0 done.log.0);
       failed = λ before. done.failed (inv.failed before);
@@ -189,6 +192,12 @@ returns-then-is_over-clause-slots g c = c.loop-made.invariant.slots
 
 pub returns-clause-slots : goal.returns-clause-slots
 returns-clause-slots g c = c.loop-made.invariant.slots
+
+pub returns-then-is_over-clause-done : goal.returns-then-is_over-clause-done
+returns-then-is_over-clause-done g c = c.loop-made.invariant.done
+
+pub returns-clause-done : goal.returns-clause-done
+returns-clause-done g c = c.loop-made.invariant.done
 
 pub returns-then-is_over-clause-took : goal.returns-then-is_over-clause-took
 returns-then-is_over-clause-took g c = c.loop-made.invariant.took

@@ -4,7 +4,7 @@ use Rattle.esa_spec.specs.Completion.{completed}
 use Rattle.esa_spec.specs.Fronts.{Begins}
 use Rattle.esa_spec.specs.Traces.{spread}
 use Rattle.esa_spec.specs.Verdicts.{is_finished}
-use Rattle.esa_floor.specs.Keeping.{QueuesHold, QueuesHoldAfter, SlotsHold, SlotsHoldAfter, StopsAfter}
+use Rattle.esa_floor.specs.Keeping.{KeepsDone, QueuesHold, QueuesHoldAfter, SlotsHold, SlotsHoldAfter, StopsAfter}
 use Rattle.esa_floor.specs.Marks.{roots_of}
 use Rattle.esa_floor.specs.Standing.{Stands, attempt_begun, turns_made}
 use Rattle.esa_floor.specs.Written.{EachTookItsBlock, FailedByStop, ReadsGaveTheirBlocks}
@@ -25,6 +25,8 @@ invariant-loop-made g l =
       queues : AllHold g.G.Told.draws l.initial.floor l.initial.workers → QueuesHold g.G.Told.draws l.initial.floor → QueuesHold g.G.Told.draws l.floor;
       slots : AllHold g.G.Told.draws l.initial.floor l.initial.workers → QueuesHold g.G.Told.draws l.initial.floor → SlotsHold g.G.Told.draws l.initial.floor
           → SlotsHold g.G.Told.draws l.floor;
+      done : AllHold g.G.Told.draws l.initial.floor l.initial.workers → KeepsDone g.V.Device.faults g.G.Told.draws l.initial.floor
+          → KeepsDone g.V.Device.faults g.G.Told.draws l.floor;
       took : (record_of : ℕ → Item) → AllHold g.G.Told.draws l.initial.floor l.initial.workers → QueuesHold g.G.Told.draws l.initial.floor
           → EachTookItsBlock g.G.Told.draws record_of l.initial.floor → EachTookItsBlock g.G.Told.draws record_of l.floor;
       log : Begins l.initial.floor.recorder.log l.floor.recorder.log;

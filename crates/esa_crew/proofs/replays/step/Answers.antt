@@ -58,6 +58,9 @@ returns-clause-queues g c = λ holds queues. c.turn.ensures.queues holds.records
 pub returns-clause-slots : goal.returns-clause-slots
 returns-clause-slots g c = λ holds slots. c.turn.ensures.slots holds.chunks slots
 
+pub returns-clause-done : goal.returns-clause-done
+returns-clause-done g c = λ holds. c.turn.ensures.done holds.records holds.chunks
+
 pub returns-clause-took : goal.returns-clause-took
 returns-clause-took g c = λ record_of holds took. c.turn.ensures.took record_of holds.chunks took
 

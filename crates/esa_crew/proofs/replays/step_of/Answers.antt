@@ -38,6 +38,10 @@ pub returns-clause-slots : goal.returns-clause-slots
 returns-clause-slots g c = λ all slots.
     c.step.ensures.slots (all c.args.number c.index-workers-number.result c.requires.number) slots
 
+pub returns-clause-done : goal.returns-clause-done
+returns-clause-done g c = λ all.
+    c.step.ensures.done (all c.args.number c.index-workers-number.result c.requires.number)
+
 pub returns-clause-took : goal.returns-clause-took
 returns-clause-took g c = λ record_of all took.
     c.step.ensures.took record_of (all c.args.number c.index-workers-number.result c.requires.number) took

@@ -9,6 +9,8 @@ use Rattle.esa_floor.specs.Standing.{turns_made}
 use Rattle.esa_floor.specs.Written.{AreItems}
 use Rattle.esa_parallel.specs.Crews.{IsDoneByAll}
 use Rattle.esa_floor.specs.declared.floor.Roots.{Roots}
+use Rattle.esa_floor.proofs.Doing.{queues_done, slots_done}
+use Rattle.esa_floor.proofs.Faulting.{failed_by_stop, goes_on_in, reads_by_stop}
 use Rattle.esa_floor.proofs.Resting.{working}
 use Rattle.esa_params.specs.Sizes.{Sizes}
 use Rattle.esa_params.specs.Slots.{item_length}
@@ -76,7 +78,7 @@ returns-clause-outputs g c = λ record_of items faithful input good.
     (subst (λ (k : Keys). AreOutputsStored p k d (turns_made mid) a record_of p.b last.recorder.log) run
     (subst (λ (q : Sizes). AreOutputsStored q mid.run d (turns_made mid) a record_of q.b last.recorder.log) plan
     (c.finish-end.ensures.outputs record_of (subst (λ (q : Sizes). AreItems (item_length q.form) record_of) (sym plan) items)
-    c.distribute-held.ensures.kept.queues c.distribute-held.ensures.kept.slots
+    (queues_done g.V.Device.faults g.G.Told.draws mid c.distribute-held.ensures.kept.done) (slots_done g.V.Device.faults g.G.Told.draws mid c.distribute-held.ensures.kept.done)
     (subst (λ (q : Sizes). IsFaithful q last.recorder.log) (sym plan) faithful)
     (c.distribute-held.ensures.input record_of (faithful_before p mid.recorder.log last.recorder.log c.finish-end.ensures.log faithful) input) good)))
 
@@ -98,10 +100,24 @@ returns-clause-done g c =
 pub returns-clause-took : goal.returns-clause-took
 returns-clause-took g c = λ record_of items.
     let kept = c.distribute-held.ensures.kept in
-    c.finish-end.ensures.took record_of (subst (λ (q : Sizes). AreItems (item_length q.form) record_of) (sym kept.stands.of.plan) items) kept.queues kept.slots (kept.took record_of items)
+    let mid = c.distribute-held.result.value in
+    let faults = g.V.Device.faults in
+    let ds = g.G.Told.draws in
+    c.finish-end.ensures.took record_of (subst (λ (q : Sizes). AreItems (item_length q.form) record_of) (sym kept.stands.of.plan) items)
+    (queues_done faults ds mid kept.done) (slots_done faults ds mid kept.done) (kept.took record_of items)
 
 pub returns-clause-failed : goal.returns-clause-failed
-returns-clause-failed g c = c.finish-end.ensures.failed c.distribute-held.ensures.kept.failed
+returns-clause-failed g c =
+    let mid = c.distribute-held.result.value in
+    let kept = c.distribute-held.ensures.kept in
+    let some : mid.attempt ≢ None = λ none. there c.args.attempt (sym c.distribute-held.ensures.attempt ∙ none) in
+    c.finish-end.ensures.failed
+    (failed_by_stop g.G.Told.draws mid (goes_on_in g.V.Device.faults g.G.Told.plan g.G.Told.draws mid kept.stands some) kept.failed)
 
 pub returns-clause-reads : goal.returns-clause-reads
-returns-clause-reads g c = c.finish-end.ensures.reads c.distribute-held.ensures.kept.reads
+returns-clause-reads g c =
+    let mid = c.distribute-held.result.value in
+    let kept = c.distribute-held.ensures.kept in
+    let some : mid.attempt ≢ None = λ none. there c.args.attempt (sym c.distribute-held.ensures.attempt ∙ none) in
+    c.finish-end.ensures.reads
+    (reads_by_stop g.G.Told.draws mid (goes_on_in g.V.Device.faults g.G.Told.plan g.G.Told.draws mid kept.stands some) kept.reads)

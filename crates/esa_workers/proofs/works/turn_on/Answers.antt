@@ -2,6 +2,7 @@
 use Rattle.std.proofs.Common.{ℕ, ap, ◌∙◌, subst}
 use Rattle.esa_floor.specs.Marks.{mark_of}
 use Rattle.esa_floor.specs.Working.{Working}
+use Rattle.esa_floor.proofs.Doing.{queues_done}
 use Rattle.esa_workers.specs.Works.{Shows}
 use Rattle.esa_workers.proofs.Placing.{log_turned}
 use Rattle.esa_workers.proofs.Turning.{idle, shown}
@@ -36,11 +37,10 @@ returns-clause-kept g c =
     record {
       stands = t.stands;
       logged = c.keeps_its_log.ensures;
-      queues = t.queues keeps.records c.requires.kept.queues;
-      slots = t.slots keeps.chunks c.requires.kept.slots;
+      done = t.done keeps.records keeps.chunks c.requires.kept.done;
       took = λ record_of items. t.took record_of keeps.chunks (c.requires.kept.took record_of items);
-      failed = t.failed c.requires.kept.failed;
-      reads = t.reads c.requires.kept.reads;
+      failed = t.failed_at_end c.requires.kept.failed;
+      reads = t.reads_up_to_end c.requires.kept.reads;
     }
 
 pub returns-clause-trail : goal.returns-clause-trail
@@ -52,4 +52,4 @@ pub returns-clause-keeps : goal.returns-clause-keeps
 returns-clause-keeps g c =
     let t = c.turn-turn.ensures in
     let keeps = c.arrive.ensures.keeps in
-    record { records = t.holds; chunks = t.chunks keeps.records c.requires.kept.queues keeps.chunks }
+    record { records = t.holds; chunks = t.chunks keeps.records (queues_done g.V.Device.faults g.G.Told.draws c.args.floor.now c.requires.kept.done) keeps.chunks }

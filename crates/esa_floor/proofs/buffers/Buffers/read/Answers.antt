@@ -1,10 +1,7 @@
--- The text is the one that was sealed.
-use Rattle.std.proofs.Common.{ℕ, take, ap, subst, rules}
+-- The text is the one that was sealed, and that of the bytes that were given.
+use Rattle.std.proofs.Common.{ap, subst, rules}
 use Rattle.std.specs.Prelude.{OnOk}
 use Rattle.esa_params.specs.Sizes.{Sizes}
-use Rattle.esa_params.specs.Slots.{at}
-use Rattle.esa_params.specs.declared.slot.Region.TheVariants.{Input}
-use Rattle.esa_vault.specs.Traffic.{GivesLatest}
 use Rattle.esa_floor.specs.Keeping.{OpensTo}
 use Rattle.esa_floor.specs.Working.{Buffered}
 use Rattle.esa_floor.proofs.Keeping.{opens_ok}
@@ -13,9 +10,13 @@ use Rattle.esa_floor.proofs.buffers.Buffers.read.Goals as goal
 pub returns-clause-opens : goal.returns-clause-opens
 returns-clause-opens g c =
     let p = c.self.inside.plan in
+    let j = c.args.bucket in
+    let a = c.args.attempt in
+    let keys = c.args.keys.now in
     let text = c.read_first.new.text.items in
-    subst (λ (q : Sizes). OnOk c.read_first.result (OpensTo q c.args.keys.now c.args.attempt c.args.bucket text c.args.recorder.now c.read_first.new.recorder))
+    let old = c.args.recorder.now in
+    let new = c.read_first.new.recorder in
+    subst (λ (q : Sizes). OnOk c.read_first.result (OpensTo q keys a j text old new))
     (ap (λ (b : Buffered). b.plan) c.self.view_is)
-    (opens_ok p c.args.keys.now c.args.attempt c.args.bucket text c.args.recorder.now c.read_first.new.recorder c.read_first.result
-    (subst (λ (n : ℕ). GivesLatest p c.args.keys.now (at Input c.args.bucket) c.args.attempt 0 (take n text) c.args.recorder.now c.read_first.new.recorder c.read_first.result)
-    (search rules) c.read_first.ensures.latest))
+    (opens_ok g.V.Device.told g.V.Device.faults g.V.Device.last_call p keys a j _ _ _ text old new c.read_first.result
+    c.read_first.ensures.read c.read_first.ensures.opened c.read_first.ensures.latest (search rules))

@@ -132,7 +132,7 @@ returns-then-phase-eq0-clause-leaves g c = λ runs.
     let w = c.args.worker.now in
     let first = c.requires.phase ∙ sym c.phase.ensures ∙ c.if-phase-eq0.true in
     let one = ap (λ (x : Working _). x.phase) c.claim.ensures.worker in
-    at_first f.plan.b (turns_made f) w.number (λ (e : Event). Leaves e f w c.claim.new.worker) (λ j. one) one first
+    at_first f.plan.b (turns_made f) w.number (λ (e : Event). Leaves e c.claim.new.self.recorder.last f w c.claim.new.worker) (λ j. one) one first
 
 pub returns-then-bucket-b-clause-leaves : goal.returns-then-bucket-b-clause-leaves
 returns-then-bucket-b-clause-leaves g c = λ runs.
@@ -147,7 +147,7 @@ returns-then-bucket-b-clause-leaves g c = λ runs.
     let held_is = c.requires.held more in
     let same = ap (λ (x : Working _). x.bucket) c.pass.ensures.worker in
     let idle = next_is_idle f.plan.b (turns_made f) w.number (λ first. more (sym c.requires.phase ∙ first)) (omega (arith, held_is, bucket_is, b_is, none)) in
-    subst (λ (e : Event). Leaves e f w c.pass.new.worker) (sym idle) (omega (arith, same, none, bucket_is, b_is))
+    subst (λ (e : Event). Leaves e f.recorder.last f w c.pass.new.worker) (sym idle) (omega (arith, same, none, bucket_is, b_is))
 
 pub returns-then-phase-eq0-clause-failed : goal.returns-then-phase-eq0-clause-failed
 returns-then-phase-eq0-clause-failed g c = λ failed. ap (λ (x : Parts _). x.stash) c.claim.ensures.floor

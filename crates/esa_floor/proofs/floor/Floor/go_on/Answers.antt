@@ -167,17 +167,22 @@ returns-then-phase-eq1-clause-leaves g c = λ runs.
     let f = c.args.self.now in
     let w = c.args.worker.now in
     let first = c.requires.phase ∙ sym c.phase-phase.ensures ∙ c.if-phase-eq1.true in
-    subst (λ (e : Event). Leaves e f w c.read.new.worker)
-    (sym (next_reads f.plan.b (turns_made f) w.number w.bucket c.requires.held c.requires.bucket first)) (ap (λ (x : Working _). x.phase) (c.read.ensures.worker runs))
+    subst (λ (e : Event). Leaves e c.read.new.self.recorder.last f w c.read.new.worker)
+    (sym (next_reads f.plan.b (turns_made f) w.number w.bucket c.requires.held c.requires.bucket first))
+    (record {
+      phase = ap (λ (x : Working _). x.phase) (c.read.ensures.worker runs);
+      bucket = ap (λ (x : Working _). x.bucket) (c.read.ensures.worker runs);
+      text = (c.read.ensures.opened runs).given;
+    })
 
 pub returns-then-phase-eq2-clause-leaves : goal.returns-then-phase-eq2-clause-leaves
 returns-then-phase-eq2-clause-leaves g c = λ runs.
     let f = c.args.self.now in
     let w = c.args.worker.now in
     let is = sym c.phase-phase.ensures ∙ c.if-phase-eq2.true in
-    subst (λ (e : Event). Leaves e f w c.exchange.new.worker)
+    subst (λ (e : Event). Leaves e c.exchange.new.self.recorder.last f w c.exchange.new.worker)
     (sym (next_exchanges f.plan.b (turns_made f) w.number w.bucket c.requires.held c.requires.bucket (c.requires.phase ∙ is)))
-    (ap (λ (x : Working _). x.bucket) (c.exchange.ensures.worker runs), c.exchange.ensures.chunks runs)
+    (record { bucket = ap (λ (x : Working _). x.bucket) (c.exchange.ensures.worker runs); chunks_are = c.exchange.ensures.chunks runs })
 
 pub returns-clause-leaves : goal.returns-clause-leaves
 returns-clause-leaves g c = λ runs.
@@ -189,9 +194,14 @@ returns-clause-leaves g c = λ runs.
     let later = c.requires.later in
     let phase = c.requires.phase in
     let least : 3 ≤ w.phase = omega (arith, is, first, second, later) in
-    subst (λ (e : Event). Leaves e f w c.write.new.worker)
+    subst (λ (e : Event). Leaves e c.write.new.self.recorder.last f w c.write.new.worker)
     (sym (next_writes f.plan.b (turns_made f) w.number w.bucket c.requires.held c.requires.bucket (omega (arith, phase, is, first, second, later))))
-    (least, refl, ap (λ (x : Working _). x.bucket) (c.write.ensures.worker runs), ap (λ (x : Working _). x.buffers.chunks) (c.write.ensures.worker runs))
+    (record {
+      phase = least;
+      before = refl;
+      bucket = ap (λ (x : Working _). x.bucket) (c.write.ensures.worker runs);
+      same = ap (λ (x : Working _). x.buffers.chunks) (c.write.ensures.worker runs);
+    })
 
 pub returns-then-phase-eq1-clause-failed : goal.returns-then-phase-eq1-clause-failed
 returns-then-phase-eq1-clause-failed g c = λ failed. ap (λ (x : Parts _). x.stash) c.read.ensures.floor

@@ -1,13 +1,15 @@
 -- The mark does not fall, and other workers stand as before.
 use Rattle.std.proofs.Common.{◌≡◌, ◌≢◌, ℕ, ◌∷◌, ◌++◌, List, [], None, refl, sym, ap, ◌∙◌, subst, arith}
 use Rattle.esa_spec.specs.Turns.{next}
-use Rattle.esa_floor.specs.Keeping.{HoldsAfter, HoldsChunks, HoldsRecords, QueuesHold, QueuesHoldAfter, SlotsHold, SlotsHoldAfter, StopsAfter}
-use Rattle.esa_floor.specs.Parts.{Parts}
+use Rattle.esa_floor.specs.Keeping.{HoldsAfter, HoldsChunks, HoldsRecords, KeepsDone, QueuesHold, QueuesHoldAfter, SlotsHold, SlotsHoldAfter, StopsAfter}
+use Rattle.esa_floor.specs.Parts.{Parts, with_entry}
 use Rattle.esa_floor.specs.Standing.{attempt_begun, turns_made}
 use Rattle.esa_floor.specs.Working.{Working}
-use Rattle.esa_floor.specs.Written.{EachTookItsBlock, FailedByStop, ReadsGaveTheirBlocks}
+use Rattle.esa_floor.specs.Written.{EachTookItsBlock, FailedAtItsEnd, FailedByStop, GaveUpToItsEnd, ReadsGaveTheirBlocks}
 use Rattle.esa_floor.proofs.Chunking.{chunks_on, others_on as others_hold_on}
+use Rattle.esa_floor.proofs.Doing.{calm_on, done_turn}
 use Rattle.esa_floor.proofs.Failing.{failed_turn}
+use Rattle.esa_floor.proofs.Faulting.{fails_turn, gives_turn}
 use Rattle.esa_floor.proofs.Giving.{gave_turn}
 use Rattle.esa_floor.proofs.Queueing.{held_on, queues_on}
 use Rattle.esa_floor.proofs.Resting.{begun_on, mark_grows, others_on}
@@ -241,3 +243,43 @@ returns-clause-reads g c = λ before.
     let room = c.push_reserved.new.self.cap in
     subst (λ (x : Parts _). ReadsGaveTheirBlocks g.G.Told.draws x) (is g c)
     (gave_turn f new w.number room w.run w.buffers.chunks g.V.Device.faults g.G.Told.draws worker turn.kept turn.idle turn.later turn.log turn.reads before)
+
+pub returns-clause-done : goal.returns-clause-done
+returns-clause-done g c = λ records chunks keeps.
+    let f = c.args.self.now in
+    let n = c.args.worker.now.number in
+    let turn = c.take-turn.ensures in
+    let faults = g.V.Device.faults in
+    let ds = g.G.Told.draws in
+    let new = c.take-turn.new.self in
+    let room = c.push_reserved.new.self.cap in
+    done_turn faults ds f (now g c) n room (apart g c)
+    (subst (λ (x : Parts _). x.attempt ≡ f.attempt) (is g c) (ap (λ (x : Parts _). x.attempt) turn.kept))
+    (subst (λ (x : Parts _). x.attempt ≢ None → x.stop ≡ None → faults x.recorder.device ≡ x.faults) (is g c)
+    (calm_on faults ds (with_entry new n) g.G.Told.plan turn.stands))
+    (subst (λ (x : Parts _). f.stop ≢ None → x ≡ record f { history = f.history ++ n ∷ []; room = room }) (is g c)
+    (λ stopped. ap (λ (x : Parts _). record x { history = f.history ++ n ∷ []; room = room }) (turn.later stopped)))
+    (returns-clause-queues g c records) (returns-clause-slots g c chunks) (returns-clause-stops g c) (returns-clause-queues_before g c)
+    (returns-clause-slots_before g c) keeps
+
+pub returns-clause-failed_at_end : goal.returns-clause-failed_at_end
+returns-clause-failed_at_end g c =
+    let f = c.args.self.now in
+    let w = c.args.worker.now in
+    let turn = c.take-turn.ensures in
+    subst (λ (x : Parts _). FailedAtItsEnd f → FailedAtItsEnd x) (is g c)
+    (fails_turn g.V.Device.faults g.G.Told.draws f c.take-turn.new.self w.run w.number w.buffers.chunks (apart g c) turn.kept turn.idle turn.later turn.log
+    c.requires.stands.state turn.stops)
+
+pub returns-clause-reads_up_to_end : goal.returns-clause-reads_up_to_end
+returns-clause-reads_up_to_end g c =
+    let f = c.args.self.now in
+    let w = c.args.worker.now in
+    let turn = c.take-turn.ensures in
+    let new = c.take-turn.new.self in
+    let room = c.push_reserved.new.self.cap in
+    let faults = g.V.Device.faults in
+    let ds = g.G.Told.draws in
+    subst (λ (x : Parts _). GaveUpToItsEnd ds f → GaveUpToItsEnd ds x) (is g c)
+    (gives_turn faults ds f new w.run w.number w.buffers.chunks (apart g c) turn.kept turn.idle turn.later turn.log c.requires.stands.state room
+    (gave_turn f new w.number room w.run w.buffers.chunks faults ds (apart g c) turn.kept turn.idle turn.later turn.log turn.reads))
