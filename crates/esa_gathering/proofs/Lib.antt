@@ -2,4 +2,5 @@ mod Lines
 mod Texts
 mod Reading
 mod Inputs
-mod Offered
+mod Left
+mod Gathered

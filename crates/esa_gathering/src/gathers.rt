@@ -13,7 +13,6 @@ use esa_job::Mode;
 use esa_params::Form;
 use esa_refusal::Stop;
 use std::alloc::Global;
-use std::sync::Wait;
 use std::thread::Threads;
 
 /// Makes the batch of several texts. It is the same batch whoever makes it.
@@ -64,7 +63,7 @@ pub(crate) struct Crew<'a, R> {
     pub(crate) rt: &'a R,
 }
 
-impl<R: Threads + Wait + Sync> Gathers for Crew<'_, R> {
+impl<R: Threads + Sync> Gathers for Crew<'_, R> {
     ghost ready = { λ _. IsSync R.row };
 
     fn batch(

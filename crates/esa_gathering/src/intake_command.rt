@@ -18,7 +18,6 @@ use esa_outside::{Cabinet, Printer};
 use esa_refusal::{End, Status, Stop};
 use esa_shuffling::work_batch;
 use std::alloc::Global;
-use std::sync::Wait;
 use std::thread::Threads;
 
 /// What intake takes in.
@@ -101,7 +100,7 @@ pub fn intake<K: Cabinet, P: Printer>(
 
 /// The command intake where threads can be started: one for each file, if the job asks for a crew. What it writes is the
 /// same, whatever the threads do.
-pub fn intake_crew<R: Threads + Wait + Sync, K: Cabinet, P: Printer>(
+pub fn intake_crew<R: Threads + Sync, K: Cabinet, P: Printer>(
     rt: &R,
     alloc: Global,
     cabinet: &mut K,

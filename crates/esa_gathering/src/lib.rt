@@ -5,6 +5,7 @@
 mod crew;
 mod gathers;
 mod intake_command;
+mod merging;
 mod taking;
 mod together;
 

@@ -3,7 +3,7 @@ use Rattle.std.proofs.lemmas.Result.{err_from_is_err_and}
 use Rattle.esa_batcher.specs.Finishing.{envelopes_of, batch_of}
 use Rattle.esa_gathering.specs.Crew.{HasAll}
 use Rattle.esa_gathering.specs.Together.{texts_of, all_lines}
-use Rattle.esa_gathering.proofs.Offered.{crew_few, crew_batch}
+use Rattle.esa_gathering.proofs.Gathered.{crew_few, crew_batch}
 use Rattle.esa_gathering.proofs.crew.batch_by_crew.Goals as goal
 
 pub returns-in_err-finish-in-Some-clause-err : goal.returns-in_err-finish-in-Some-clause-err
