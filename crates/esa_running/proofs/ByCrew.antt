@@ -10,8 +10,6 @@ use Rattle.esa_vault.specs.declared.fault.VaultFault.TheVariants.{Device, Tamper
 use Rattle.esa_running.specs.ByCrew.{IsByCrew, uncut_by}
 use Rattle.esa_taking.specs.Run.{Asked}
 use Rattle.esa_running.specs.RunOwes.{fault_status}
-use Rattle.esa_taking.specs.Wanted.{sizes_in, HasFewAttempts}
-use Rattle.esa_running.proofs.Turned.{few_handed_in, few_stored}
 
 module _ (asked : Asked) where
   -- a job with turns asks for no crew

@@ -34,10 +34,10 @@ module _ (asked again : Asked) (seen other : Seen) (crew : runs_crew asked.job �
         ∙ ap (λ (x : (ℕ → Draw) × List (List ℕ)). made p x.0 x.1) (λ i. (draws i, turns i))
 
     -- what holds of the other run holds of them
-    as-made : (P : Sizes → (ℕ → Draw) → List (List ℕ) → Type 0) → P (sizes_in again) again.draws (turns_by again other.history) → P p ds (made p ds hs)
+    pub as-made : (P : Sizes → (ℕ → Draw) → List (List ℕ) → Type 0) → P (sizes_in again) again.draws (turns_by again other.history) → P p ds (made p ds hs)
     as-made P = subst (λ (x : Sizes × (ℕ → Draw) × List (List ℕ)). P x.0 x.1 x.2) (λ i. (sizes i, draws i, replayed i))
 
-    few : (a : ℕ) → Succeeds p ds hs seen a → length hs ≤ p.attempts
+    pub few : (a : ℕ) → Succeeds p ds hs seen a → length hs ≤ p.attempts
     few a s =
         let all = ap length (stored_are asked p seen.history refl crew) in
         let cut = ap length s.turns in

@@ -3,6 +3,8 @@ pub mod ComingOut
 pub mod Forwarding
 pub mod Outlets
 pub mod Purpose
+pub mod Replaying
 pub mod RunEnded
 pub mod RunOwes
 pub mod RunWork
+pub mod WellEnded

@@ -27,6 +27,7 @@ use Rattle.esa_running.specs.declared.purpose.Purpose.{Purpose}
 use Rattle.esa_running.specs.ByCrew.{IsByCrew, uncut_by}
 use Rattle.esa_running.specs.ComingOut.{IsLoaded, Became, AreOfBatch}
 use Rattle.esa_running.specs.Forwarding.{Forwards}
+use Rattle.esa_running.specs.WellEnded.{CanBeAsked}
 use Rattle.esa_taking.specs.Run.{Asked}
 use Rattle.esa_running.specs.RunWork.{records_of, success_work}
 use Rattle.esa_taking.specs.Wanted.{sizes_in, turns_by, block_keys, HasFewAttempts}
@@ -130,6 +131,8 @@ pub record IsRecorded {V : Type 0} (told : V → Option (List (List ℕ))) (p : 
 -- what a shuffle for a purpose owes, whose device counted so many faults before it: by what was asked, and what is seen of it.
 -- It reads the cabinet and changes no file
 pub record RunOwes {V : Type 0} (purpose : Purpose) (told : V → Option (List (List ℕ))) (faults : V → ℕ) (before : ℕ) (now : Recorded V) (history : List ℕ) (asked : Asked) (taken acted : Stand Files) (work : Work) : Type 0 where
+  -- it could be asked for
+  pub can : CanBeAsked asked
   -- what the load was given for the records of the batch, and what became of them
   pub given : List ℕ
   pub load : IsLoaded asked taken acted history given

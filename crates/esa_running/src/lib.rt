@@ -7,13 +7,17 @@ mod handed_in;
 mod outlet;
 mod outputs;
 mod purpose;
+mod replays;
 mod run_command;
 mod shuffle_crew;
 mod shuffle_mode;
 mod threaded;
+mod well_ended;
 mod working;
 
 pub use handed_in::{crews_are_replayed, turns_can_be_handed_in_again};
 pub use purpose::Purpose;
+pub use replays::{crews_output_is_replayed, crews_turns_are_read};
 pub use run_command::{Ended, run};
 pub use threaded::run_threaded;
+pub use well_ended::runs_without_faults_end_well;

@@ -10,6 +10,7 @@ use Rattle.esa_command.proofs.Settling.{none_written}
 use Rattle.esa_taking.specs.RunTaken.{run_taken}
 use Rattle.esa_taking.specs.Wanted.{sizes_in}
 use Rattle.esa_running.proofs.ByCrew.{none_by_crew}
+use Rattle.esa_running.proofs.Asking.{can_be_asked}
 use Rattle.esa_running.proofs.ComingOut.{none_loaded, none_became, none_recorded}
 use Rattle.esa_running.proofs.Turned.{few_handed_in}
 use Rattle.esa_running.proofs.run_command.act.Goals as goal
@@ -24,6 +25,7 @@ returns g c =
       work = failed_work (DeviceFault Lay) [];
       acted = cabinet;
       owes = record {
+        can = can_be_asked c.args.input.now c.requires.taken;
         given = [];
         load = none_loaded (run_taken c.args.input.now) cabinet;
         became = none_became (run_taken c.args.input.now) c.ready.new.self.log c.ready.ensures.log;

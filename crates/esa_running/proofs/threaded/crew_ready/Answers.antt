@@ -12,6 +12,7 @@ use Rattle.esa_running.specs.RunOwes.{IsRecorded}
 use Rattle.esa_taking.specs.RunTaken.{run_taken}
 use Rattle.esa_taking.specs.Wanted.{block_keys, outer_keys, turns_by, HasFewAttempts}
 use Rattle.esa_running.proofs.ComingOut.{loaded, made_of}
+use Rattle.esa_running.proofs.Asking.{can_be_asked}
 use Rattle.esa_running.proofs.threaded.crew_ready.Goals as goal
 
 pub end_ran-requires-clause-ends : goal.end_ran-requires-clause-ends
@@ -44,6 +45,7 @@ returns-in-Ok g c =
       work = done.work;
       acted = acted;
       owes = record {
+        can = can_be_asked c.args.input.now c.requires.taken;
         given = gave.given;
         load = subst (λ history. IsLoaded asked taken acted history gave.given) (sym c.end_ran.ensures.history) (loaded asked taken acted ran.history ran.recorder.log ran.outcome gave);
         became = done.became;
