@@ -1,7 +1,5 @@
 //! What is seen of a floor, as lines.
 
-ghost use Rattle.std.specs.Prelude.{◌≡◌};
-
 use crate::seen::{add_chunks, add_numbers};
 use anyhow::{Result, bail};
 use esa_device::Device;

@@ -19,7 +19,6 @@ mod setup;
 
 use anyhow::{Result, ensure};
 use esa_case_file::{Case, read_cases};
-use std::alloc::Global;
 use std::rt::{Env, Files};
 use std::{env, fs};
 

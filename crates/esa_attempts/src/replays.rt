@@ -1,6 +1,6 @@
 //! Turns that are replayed on a floor alone: nothing is drained behind them.
 
-ghost use Rattle.std.specs.Prelude.{◌≡◌, ◌≢◌, ℕ, ◌+◌, ◌<◌, ◌≤◌, [], All, IfOk, None, OnOk, Some, length, true};
+ghost use Rattle.std.specs.Prelude.{◌≡◌, ℕ, ◌+◌, ◌<◌, ◌≤◌, [], All, IfOk, None, OnOk, Some, length, true};
 ghost use Rattle.esa_crew.specs.Posts.{AreMembers};
 ghost use Rattle.esa_floor.specs.Marks.{roots_of};
 ghost use Rattle.esa_floor.specs.Parts.{begun_as};

@@ -10,7 +10,7 @@ use esa_params::{Form, Params, Plan, Region, Slot, check};
 use esa_report::crowd_of;
 use esa_scans::{Tables, threshold};
 use esa_vault::put_block;
-use std::alloc::{AllocError, Global};
+use std::alloc::Global;
 
 /// The buckets of the plan.
 const BUCKETS: u32 = 32;

@@ -14,7 +14,6 @@ mod run;
 use anyhow::{Result, ensure};
 use esa_case_file::{Case, read_cases};
 use run::{DISK, run_case};
-use std::alloc::Global;
 use std::fs::File as HostFile;
 use std::rt::{Env, Files};
 use std::sync::Wait;

@@ -10,7 +10,7 @@ ghost use Rattle.esa_command.specs.Stand.{stand};
 ghost use Rattle.esa_encoding.specs.Generate.{next_state, report_line, generated, generated_text, generate_work, generate_steps};
 
 use esa_command::{settle_one, take_job};
-use esa_job::{Command, JobField};
+use esa_job::Command;
 use esa_outside::{Cabinet, Failed, Printer};
 use esa_page::Page;
 use esa_refusal::{End, Line, Sink, Status, add_numbered};

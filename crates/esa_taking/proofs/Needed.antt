@@ -1,7 +1,6 @@
 -- What a job has that shuffles a batch, and its keys, and what its drops file is refused for.
-use Rattle.std.proofs.Common.{◌≡◌, inl, inr, suc, true, false, List, [], ◌∷◌, length, refl, ap, ◌∙◌, arith}
-use Rattle.std.specs.Prelude.{◌==◌, IsSome}
-use Rattle.std.proofs.lemmas.Bool.Decides.{nat_tests}
+use Rattle.std.proofs.Common.{◌≡◌, inl, inr, true, false, refl, ap, ◌∙◌}
+use Rattle.std.specs.Prelude.{IsSome}
 use Rattle.esa_job.specs.Keys.{needs_key, key_of}
 use Rattle.esa_job.specs.Table.{need_of}
 use Rattle.esa_job.specs.declared.command.Command.{Command}
