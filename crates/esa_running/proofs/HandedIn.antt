@@ -12,7 +12,7 @@ use Rattle.esa_laws.proofs.AfterLaws.{completion-keeps}
 use Rattle.esa_laws.proofs.FinishLaws.{prefix-finished}
 use Rattle.esa_laws.proofs.LaterLaws.{places-kept}
 use Rattle.esa_model.specs.Forecast.{made, made_in}
-use Rattle.esa_ending.specs.Seen.{turns_in}
+use Rattle.esa_ending.specs.Seen.{turns_in, verdict_in}
 use Rattle.esa_ending.proofs.CutLaws.{none-scanned}
 
 -- no exchange fails in a good attempt
@@ -140,12 +140,25 @@ module _ (p : Sizes) (ds : ℕ → Draw) where
   finished-by true false e = (refl, refl)
   finished-by false q e = absurd (cc)
 
+  -- the attempts end alike
+  abbrev SameVerdicts : ℕ → List (List ℕ) → List (List ℕ) → Type 0
+  SameVerdicts a hs gs = (x : ℕ) → x < length hs → verdict p (ds (a + x)) (turns_in gs x) ≡ verdict p (ds (a + x)) (turns_in hs x)
+
+  verdicts-on : (a : ℕ) (h : List ℕ) (hs gs : List (List ℕ)) → is_finished p (ds a) h ≡ true → SameVerdicts (a + 1) hs gs → SameVerdicts a (h ∷ hs) (full p (ds a) h ∷ gs)
+  verdicts-on a h hs gs finished later zero inside =
+      let here : a ≡ a + zero = omega arith in
+      subst (λ (n : ℕ). verdict p (ds n) (full p (ds a) h) ≡ verdict p (ds n) h) here (sym (completion-keeps p (ds a) h finished a).verdict_same)
+  verdicts-on a h hs gs finished later (suc x) inside =
+      let next : a + 1 + x ≡ a + suc x = omega arith in
+      subst (λ (n : ℕ). verdict p (ds n) (turns_in gs x) ≡ verdict p (ds n) (turns_in hs x)) next (later x (omega (arith, inside)))
+
   record SameFailed (a : ℕ) (hs gs : List (List ℕ)) : Type 0 where
     failed : all_failed p ds a gs ≡ true
     accesses : attempts p ds a gs ≡ attempts p ds a hs
+    verdicts : SameVerdicts a hs gs
 
   same-failed : (a : ℕ) (hs gs : List (List ℕ)) → Completes a hs gs → length hs ≡ length gs → all_failed p ds a hs ≡ true → SameFailed a hs gs
-  same-failed a [] [] c long e = record { failed = refl; accesses = refl }
+  same-failed a [] [] c long e = record { failed = refl; accesses = refl; verdicts = λ x inside. absurd (omega (arith, inside)) }
   same-failed a [] (g ∷ gs) c long e = absurd (omega (arith, long))
   same-failed a (h ∷ hs) [] c long e = absurd (omega (arith, long))
   same-failed a (h ∷ hs) (g ∷ gs) c long e =
@@ -157,6 +170,7 @@ module _ (p : Sizes) (ds : ℕ → Draw) where
             ap (λ y. y && all_failed p ds (a + 1) gs) (failed-as a h ends.0 true false (full p (ds a) h) (finished-now a h ends.0) (verdict-now a h ends.0 ∙ ends.1))
             ∙ later.failed;
         accesses = on a h ends.0 false hs gs ends.1 later.accesses;
+        verdicts = verdicts-on a h hs gs ends.0 later.verdicts;
       })
 
   handed-all : (hs : List (List ℕ)) → length hs ≡ p.attempts → all_failed p ds 0 hs ≡ true → SameFailed 0 hs (made p ds hs)
@@ -170,3 +184,8 @@ module _ (p : Sizes) (ds : ℕ → Draw) where
   handed-trace-failed hs all e =
       let s = handed-all hs all e in
       none-scanned p ds (made p ds hs) s.failed ∙ ap (λ y. load p ++ y) s.accesses ∙ sym (none-scanned p ds hs e)
+
+  pub handed-verdicts : (hs : List (List ℕ)) → length hs ≡ p.attempts → all_failed p ds 0 hs ≡ true → (x : ℕ) → x < p.attempts → verdict_in p ds (made p ds hs) x ≡ verdict_in p ds hs x
+  handed-verdicts hs all e x inside =
+      let here : 0 + x ≡ x = omega arith in
+      subst (λ (n : ℕ). verdict p (ds n) (turns_in (made p ds hs) x) ≡ verdict p (ds n) (turns_in hs x)) here ((handed-all hs all e).verdicts x (omega (arith, all, inside)))

@@ -14,6 +14,7 @@ mod ReadsBack
 mod Replayed
 mod Rooms
 mod RunEnds
+mod SameFailures
 mod SameOutput
 mod ScanEnds
 mod SentLaws

@@ -50,14 +50,14 @@ module _ {V : Type 0} (purpose : Purpose) (told : V → Option (List (List ℕ))
 
 -- ---- what a run leaves that succeeded
 
-no-output : (named left : Option (List ℕ)) (accesses : List Access) (turns : List (List ℕ))
+pub no-output : (named left : Option (List ℕ)) (accesses : List Access) (turns : List (List ℕ))
     → filter_map (λ (write : Write). cond (is_output write.sink) (Some write.bytes) None) (trace_writes named accesses ++ turns_writes left turns) ≡ []
 no-output None None accesses turns = refl
 no-output None (Some left) accesses turns = refl
 no-output (Some named) None accesses turns = refl
 no-output (Some named) (Some left) accesses turns = refl
 
-one-trace : (named left : Option (List ℕ)) (accesses : List Access) (turns : List (List ℕ)) → IsSome named
+pub one-trace : (named left : Option (List ℕ)) (accesses : List Access) (turns : List (List ℕ)) → IsSome named
     → filter_map (λ (write : Write). cond (is_trace write.sink) (Some write.bytes) None) (trace_writes named accesses ++ turns_writes left turns) ≡ trace_bytes accesses ∷ []
 one-trace None left accesses turns some = absurd (cc some)
 one-trace (Some named) None accesses turns some = refl

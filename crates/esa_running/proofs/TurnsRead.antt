@@ -5,7 +5,7 @@ use Rattle.std.proofs.lemmas.Fmt.{length-decimal-le}
 use Rattle.std.proofs.lemmas.List.{get_or_default}
 use Rattle.std.proofs.lemmas.List.Elements.{All-head, All-tail}
 use Rattle.std.proofs.lemmas.List.Sums.{sum_by-cons}
-use Rattle.esa_command.specs.Step.{Step, ◌>>=◌, Reads, accepted, file, missing, refused, within}
+use Rattle.esa_command.specs.Step.{Step, ◌>>=◌, Reads, accepted, missing, refused, within}
 use Rattle.esa_command.specs.Taking.{job_file, keys_file, read_step}
 use Rattle.esa_job.specs.Request.{Request, name_at}
 use Rattle.esa_job.specs.declared.command.Command.{Command}

@@ -5,6 +5,7 @@ ghost use Rattle.esa_command.specs.Step.{Reads, accepted};
 ghost use Rattle.esa_job.specs.Request.{Request, name_at};
 ghost use Rattle.esa_job.specs.declared.command.Command.{Command};
 ghost use Rattle.esa_job.specs.declared.field.JobField.TheVariants as field;
+ghost use Rattle.esa_refusal.specs.declared.failures.Failures.{Failures};
 ghost use Rattle.esa_refusal.specs.declared.source.Source.TheVariants as source;
 ghost use Rattle.esa_refusal.specs.declared.status.Status.TheVariants as status;
 ghost use Rattle.esa_running.specs.ComingOut.{IsBegun, batch_told};
@@ -20,6 +21,10 @@ ghost use Rattle.esa_taking.specs.Wanted.{sizes_in, turns_by};
 pub fn crews_output_is_replayed<U, V>()
     ensures output { (purpose : Purpose) (one : ActedRun U purpose) (other : ActedRun V purpose) → IsReplayed one other → IsGivenBack one → IsGivenBack other
         → one.work.ended ≡ status.Ok → other.work.ended ≡ status.Ok → LeaveTheSame one other }
+
+    // So they do where both failed in each attempt, whatever their devices gave back. Then there is no output.
+    ensures overflow { (purpose : Purpose) (one : ActedRun U purpose) (other : ActedRun V purpose) (failures others : Failures) → IsReplayed one other
+        → one.work.ended ≡ status.Overflow failures → other.work.ended ≡ status.Overflow others → LeaveTheSame one other }
 
     // Their loads were given the same envelopes where their cabinets tell the same batch, and both began an attempt.
     ensures given { (purpose : Purpose) (one : ActedRun U purpose) (other : ActedRun V purpose) (records : List (List ℕ)) → sizes_in other.asked ≡ sizes_in one.asked
