@@ -7,7 +7,6 @@
 //! hand, kind by kind.
 #![tactic(auto)]
 
-mod compare;
 mod readers;
 mod run;
 

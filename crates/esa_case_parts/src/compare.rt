@@ -1,5 +1,8 @@
 //! What differs between bytes that are there and bytes that a case says.
 
+ghost use Rattle.std.specs.Prelude.{◌≡◌, ◌≢◌, IfOk, IfNone, IfSome};
+ghost use Rattle.std.specs.Option.{option_copied};
+
 use std::alloc::{AllocError, Global};
 
 /// How many bytes of a difference are shown.
@@ -11,7 +14,10 @@ pub fn difference(
     what: &str,
     has: Option<&[u8]>,
     wants: Option<&[u8]>,
-) -> Result<Option<String>, AllocError> {
+) -> Result<Option<String>, AllocError>
+    ensures none { IfOk result (λ found. IfNone found (option_copied has.entry ≡ option_copied wants.entry)) }
+    ensures some { IfOk result (λ found. IfSome found (λ _. option_copied has.entry ≢ option_copied wants.entry)) }
+{
     match (has, wants) {
         (None, None) => Ok(None),
         (Some(has), Some(wants)) => difference_of_bytes(alloc, what, has, wants),
@@ -32,10 +38,23 @@ pub fn difference_of_bytes(
     what: &str,
     has: &[u8],
     wants: &[u8],
-) -> Result<Option<String>, AllocError> {
+) -> Result<Option<String>, AllocError>
+    ensures none { IfOk result (λ found. IfNone found (has.now ≡ wants.now)) }
+    ensures some { IfOk result (λ found. IfSome found (λ _. has.now ≢ wants.now)) }
+{
     if has == wants {
         return Ok(None);
     }
+    Ok(Some(first_difference(alloc, what, has, wants)?))
+}
+
+/// What stands from the first place on where bytes differ.
+fn first_difference(
+    alloc: Global,
+    what: &str,
+    has: &[u8],
+    wants: &[u8],
+) -> Result<String, AllocError> {
     let place = has
         .iter()
         .zip(wants)
@@ -43,9 +62,7 @@ pub fn difference_of_bytes(
         .count();
     let found = shown(alloc, has.get(place..).unwrap_or_default())?;
     let wanted = shown(alloc, wants.get(place..).unwrap_or_default())?;
-    Ok(Some(format!(in alloc;
-        "{what}, from byte {place} on: has \"{found}\" and not \"{wanted}\""
-    )?))
+    format!(in alloc; "{what}, from byte {place} on: has \"{found}\" and not \"{wanted}\"")
 }
 
 /// The first bytes, as text where they are text.

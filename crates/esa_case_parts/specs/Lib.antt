@@ -1,0 +1,4 @@
+pub mod Flips
+pub mod Judged
+pub mod Laid
+pub mod Readers
