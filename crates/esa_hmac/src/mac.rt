@@ -4,7 +4,6 @@ ghost use Rattle.std.specs.Prelude.{◌≡◌, ℕ, List, [], ◌++◌};
 
 use crate::key::{key_block, masked};
 use sha2::{Digest, Sha256};
-use std::alloc::AllocError;
 
 /// The mask of the key block before the message.
 const INNER_MASK: u8 = 0x36;

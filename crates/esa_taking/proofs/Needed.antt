@@ -1,5 +1,5 @@
 -- What a job has that shuffles a batch, and its keys, and what its drops file is refused for.
-use Rattle.std.proofs.Common.{◌≡◌, inl, inr, true, false, refl, ap, ◌∙◌}
+use Rattle.std.proofs.Common.{◌≡◌, inl, inr, true, false, ap, ◌∙◌}
 use Rattle.std.specs.Prelude.{IsSome}
 use Rattle.esa_job.specs.Keys.{needs_key, key_of}
 use Rattle.esa_job.specs.Table.{need_of}

@@ -1,23 +1,20 @@
 -- All chunks are written where the turns have not stopped, and the history has the turns. The input stays, and the output
 -- has its records.
-use Rattle.std.proofs.Common.{◌≡◌, ℕ, ◌*◌, List, Option, None, map, sym, ap, ◌∙◌, subst}
+use Rattle.std.proofs.Common.{◌≡◌, ℕ, List, Option, map, sym, ap, ◌∙◌, subst}
 use Rattle.esa_device.specs.Logs.{Carried, IsFaithful}
 use Rattle.esa_envelope.specs.declared.keys.Keys.{Keys}
 use Rattle.esa_params.specs.Sizes.{Sizes}
 use Rattle.esa_params.specs.Slots.{item_length}
 use Rattle.esa_spec.specs.Completion.{full}
-use Rattle.esa_spec.specs.Fronts.{Begins}
 use Rattle.esa_spec.specs.declared.event.Verdict.TheVariants.{Good}
-use Rattle.esa_crew.specs.Posts.{ArePosts}
-use Rattle.esa_floor.specs.Keeping.{HasInput, QueuesHold, SlotsHold}
-use Rattle.esa_floor.specs.Parts.{Parts, begun_as}
+use Rattle.esa_floor.specs.Keeping.{HasInput}
+use Rattle.esa_floor.specs.Parts.{Parts}
 use Rattle.esa_floor.specs.Standing.{attempt_begun, turns_made}
-use Rattle.esa_floor.specs.Written.{AreItems, EachGaveItsBlock, EachTookItsBlock, FailedByStop, GaveItsOwn, ReadsGave, ReadsGaveTheirBlocks}
+use Rattle.esa_floor.specs.Written.{AreItems, FailedByStop, GaveItsOwn, ReadsGave}
 use Rattle.esa_floor.specs.declared.floor.Roots.{Roots}
 use Rattle.esa_floor.specs.declared.turn.Stop.{Stop}
 use Rattle.esa_press.specs.Contents.{AreOutputsStored}
 use Rattle.esa_shuffle.proofs.Contents.{faithful_before, input_stays}
-use Rattle.esa_shuffle.specs.Attempts.{EndsByStop}
 use Rattle.esa_shuffle.proofs.Taking.{adds, all_written, good_turns, members_on, stops_short}
 use Rattle.esa_shuffle.proofs.attempt.make_attempt.Goals as goal
 

@@ -1,7 +1,7 @@
 -- The mark does not fall, and other workers stand as before.
 use Rattle.std.proofs.Common.{◌≡◌, ◌≢◌, ℕ, ◌∷◌, ◌++◌, List, [], None, refl, sym, ap, ◌∙◌, subst, arith}
 use Rattle.esa_spec.specs.Turns.{next}
-use Rattle.esa_floor.specs.Keeping.{HoldsAfter, HoldsChunks, HoldsRecords, KeepsDone, QueuesHold, QueuesHoldAfter, SlotsHold, SlotsHoldAfter, StopsAfter}
+use Rattle.esa_floor.specs.Keeping.{HoldsAfter, HoldsChunks, HoldsRecords, QueuesHold, QueuesHoldAfter, SlotsHold, SlotsHoldAfter, StopsAfter}
 use Rattle.esa_floor.specs.Parts.{Parts, with_entry}
 use Rattle.esa_floor.specs.Standing.{attempt_begun, turns_made}
 use Rattle.esa_floor.specs.Working.{Working}
