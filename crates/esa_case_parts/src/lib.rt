@@ -2,7 +2,8 @@
 //! for, readers called by themselves, and what differs from what a case says.
 //!
 //! Stands on the reader of cases, esa_case_file, and below the commands, so that a change of a command leaves it proved.
-//! Where it says that nothing differs, nothing does.
+//! It adds a difference of a run exactly where the status or the printed bytes aren't those of the case, and none for
+//! files that are all as the case says.
 #![tactic(auto)]
 
 mod compare;
