@@ -1,5 +1,5 @@
 //! The turnstile: threads that enter again and again, with work inside and outside.
-ghost use Rattle.std.specs.Prelude.{◌≡◌, ◌*◌, ◌+◌, ◌<◌, ◌≤◌, IfOk, length, All};
+ghost use Rattle.std.specs.Prelude.{◌≡◌, ◌*◌, ◌+◌, ◌<◌, ◌≤◌, ℕ, IfOk, length, slice_index_or, All};
 ghost use Rattle.esa_turnstile.specs.Passes.{passes_of, tickets_of, opened_of, IsPassOf, IsNewPass, IsOutside, left_of};
 ghost use Rattle.esa_turnstile.specs.Rolls.{room_in};
 
@@ -102,6 +102,48 @@ fn enter_alone<R: Clock + Wait>(rt: &R, alloc: Global, turns: u64) -> Result<u12
     Ok(spent.as_nanos())
 }
 
+/// Each pass enters and works, in a thread of its own. What they come to goes into the sum.
+fn work_beside<R: Threads + Wait + Sync>(
+    rt: &R,
+    turnstile: &Turnstile<Roll>,
+    passes: &mut [Pass<Roll>],
+    load: &Load,
+    sum: &AtomicU64,
+)
+    requires passes { All (λ p. IsPassOf turnstile.now p × IsOutside p × (load.now.turns ≤ left_of p)) passes.old }
+    requires room { passes_of turnstile.now * tickets_of turnstile.now ≤ room_in (opened_of turnstile.now) }
+    ensures { (k : ℕ) (d : _) → k < length passes.old
+        → IsPassOf turnstile.now (slice_index_or passes.new k d) × IsOutside (slice_index_or passes.new k d) }
+{
+    let threads = passes.len().max(1);
+    thread::for_each_mut(
+        rt,
+        passes,
+        threads,
+        &|_, pass| {
+            sum.fetch_xor(enter_and_work(rt, turnstile, pass, load), Ordering::SeqCst);
+        },
+    );
+}
+
+/// The nanoseconds that it takes.
+fn time_beside<R: Clock + Threads + Wait + Sync>(
+    rt: &R,
+    turnstile: &Turnstile<Roll>,
+    passes: &mut [Pass<Roll>],
+    load: &Load,
+) -> Result<u128>
+    requires passes { All (λ p. IsPassOf turnstile.now p × IsOutside p × (load.now.turns ≤ left_of p)) passes.old }
+    requires room { passes_of turnstile.now * tickets_of turnstile.now ≤ room_in (opened_of turnstile.now) }
+    ensures { (k : ℕ) (d : _) → k < length passes.old
+        → IsPassOf turnstile.now (slice_index_or passes.new k d) × IsOutside (slice_index_or passes.new k d) }
+{
+    let sum = AtomicU64::new(0);
+    let start = Instant::now(rt)?;
+    work_beside(rt, turnstile, passes, load, &sum);
+    Ok(start.elapsed(rt)?.as_nanos())
+}
+
 fn enter_beside<R: Clock + Threads + Wait + Sync>(
     rt: &R,
     alloc: Global,
@@ -114,20 +156,9 @@ fn enter_beside<R: Clock + Threads + Wait + Sync>(
         turnstile,
         mut passes,
     } = open(alloc, load.threads as u32, load.turns)?;
-    let sum = AtomicU64::new(0);
-    let start = Instant::now(rt)?;
-    let (shared, all) = (&turnstile, &sum);
-    thread::for_each_mut(
-        rt,
-        passes.as_mut_slice(),
-        load.threads as usize,
-        &|_, pass| {
-            all.fetch_xor(enter_and_work(rt, shared, pass, load), Ordering::SeqCst);
-        },
-    );
-    let spent = start.elapsed(rt)?;
+    let spent = time_beside(rt, &turnstile, passes.as_mut_slice(), load);
     turnstile.close(passes);
-    Ok(spent.as_nanos())
+    spent
 }
 
 fn enter_and_work<R: Wait>(

@@ -1,6 +1,6 @@
-ghost use Rattle.std.specs.Prelude.{◌≡◌, ◌*◌, ◌<◌, ◌≤◌, IfOk, length, All};
+ghost use Rattle.std.specs.Prelude.{◌≡◌, ◌*◌, ◌<◌, ◌≤◌, ℕ, IfOk, length, slice_index_or, All};
 ghost use Rattle.esa_turnstile.specs.Rolls.{room_in};
-ghost use Rattle.esa_turnstile.specs.Passes.{passes_of, tickets_of, opened_of, IsPassOf, IsNewPass};
+ghost use Rattle.esa_turnstile.specs.Passes.{passes_of, tickets_of, opened_of, left_of, IsPassOf, IsOutside, IsNewPass};
 
 use crate::{Logged, Opened, Pass, Roll, Turnstile, go_round, go_rounds, two_workers, workers};
 use std::alloc::{AllocError, Global};
@@ -120,19 +120,33 @@ fn passes_that_meet(rt: HostRuntime) -> Result<(), Fail> {
     Ok(())
 }
 
+/// Each pass enters, in a thread of its own, ten times more than the one before it.
+fn more_rounds_each<R: thread::Threads + std::sync::Wait + Sync>(
+    rt: &R,
+    turnstile: &Turnstile<Roll>,
+    passes: &mut [Pass<Roll>],
+)
+    requires few { length passes.old ≤ 8 }
+    requires passes { All (λ p. IsPassOf turnstile.now p × IsOutside p × (80 ≤ left_of p)) passes.old }
+    requires room { passes_of turnstile.now * tickets_of turnstile.now ≤ room_in (opened_of turnstile.now) }
+    ensures { (k : ℕ) (d : _) → k < length passes.old
+        → IsPassOf turnstile.now (slice_index_or passes.new k d) × IsOutside (slice_index_or passes.new k d) }
+{
+    thread::for_each_mut(
+        rt,
+        passes,
+        8,
+        &|place, pass| { go_rounds(rt, turnstile, pass, 10 * (place as u64 + 1)) },
+    );
+}
+
 #[test]
 fn eight_threads_with_different_numbers_of_turns(rt: HostRuntime) -> Result<(), Fail> {
     let Opened {
         turnstile,
         mut passes,
     } = open(rt.alloc(), 8, 80)?;
-    let shared = &turnstile;
-    thread::for_each_mut(
-        &rt,
-        passes.as_mut_slice(),
-        8,
-        &|place, pass| { go_rounds(&rt, shared, pass, 10 * (place as u64 + 1)) },
-    );
+    more_rounds_each(&rt, &turnstile, passes.as_mut_slice());
     let roll = turnstile.close(passes);
     assert!(rt; roll.entries().len() == 360);
     for number in 0..8u32 {

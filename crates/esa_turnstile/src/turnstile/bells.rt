@@ -1,36 +1,29 @@
-//! Where threads sleep until their turn comes, each by the bell of its ticket.
+//! Where threads sleep until they can get in.
 //!
 //! No clause speaks of a bell: whether a thread sleeps, and for how long, changes nothing of what it finds inside.
 
 use crossbeam_utils::sync::EventCount;
 
-/// How many bells there are. Tickets that are so far apart share one, and wake each other for nothing.
-const BELLS: u64 = 8;
-
 /// The bells of a turnstile.
 #[derive(Drop)]
 pub(crate) struct Bells {
-    bells: [EventCount; 8],
+    /// For threads that have no ticket.
+    pub(crate) door: EventCount,
+    /// For threads that have one, which isn't served yet.
+    pub(crate) line: EventCount,
 }
 
 impl Bells {
     pub(crate) fn new() -> Bells {
         Bells {
-            bells: [
-                EventCount::new(),
-                EventCount::new(),
-                EventCount::new(),
-                EventCount::new(),
-                EventCount::new(),
-                EventCount::new(),
-                EventCount::new(),
-                EventCount::new(),
-            ],
+            door: EventCount::new(),
+            line: EventCount::new(),
         }
     }
 
-    /// The bell by which the ticket's thread sleeps.
-    pub(crate) fn of(&self, ticket: u64) -> &EventCount {
-        &self.bells[(ticket % BELLS) as usize]
+    /// Rings where somebody has left: for one thread that has no ticket, and for all that have one.
+    pub(crate) fn ring(&self) {
+        self.line.notify_all();
+        self.door.notify_one();
     }
 }

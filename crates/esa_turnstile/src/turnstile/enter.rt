@@ -1,5 +1,5 @@
 //! How a pass gets in.
-ghost use Rattle.std.specs.Prelude.{◌≡◌, ◌*◌, ◌<◌, ◌≤◌, ℕ, [], ◌∷◌, None, length, All, IfOk, OnErr};
+ghost use Rattle.std.specs.Prelude.{◌≡◌, ◌*◌, ◌<◌, ◌≤◌, ℕ, [], ◌∷◌, None, length, All, IsNone, IfSome};
 ghost use mathlib.Core.List.{IsPrefix};
 ghost use Rattle.esa_turnstile.specs.declared.view.Stage.TheVariants.{Outside, Waiting};
 ghost use Rattle.esa_turnstile.specs.Entries.{times};
@@ -15,14 +15,12 @@ use crate::plays::{Draw, Look};
 use std::hint;
 use std::sync::Wait;
 
-/// How often a thread looks before it sleeps, where its ticket is the next.
-const NEXT_SPINS: u32 = 2000;
-
-/// How often it looks where its ticket is a later one.
-const LATER_SPINS: u32 = 100;
+/// How often a thread looks before it sleeps.
+const SPINS: u32 = 1000;
 
 impl<T: Logged> Turnstile<T> {
-    /// Waits until all who drew a ticket before have left, and takes the value. It takes no memory.
+    /// Waits until nobody is inside, draws a ticket, waits until all who drew one before have left, and takes the value. It
+    /// takes no memory.
     pub fn enter<R: Wait>(&self, rt: &R, pass: &mut Pass<T>) -> Held<T>
         requires pass { IsPassOf self.now pass.old }
         requires outside { IsOutside pass.old }
@@ -48,9 +46,41 @@ impl<T: Logged> Turnstile<T> {
         ensures trail { IsPrefix (trail_of pass.old) (T.trail result.value) }
         ensures mark_same { length (T.log result.value) ≡ length (seen_of pass.old) → T.mark result.value ≡ mark_of pass.old }
     {
+        self.wait_at_door(rt);
         let ticket = self.draw(&mut pass.seat);
         let value = self.wait_turn(rt, &mut pass.seat, ticket);
         Held { value }
+    }
+
+    /// Waits until no ticket is out. So a thread that sleeps has none, and keeps nobody waiting behind it. Threads that look
+    /// at the same time may all draw: then they are served in turn.
+    fn wait_at_door<R: Wait>(&self, rt: &R) {
+        let mut spins = 0;
+        for _ in rt.forever() {
+            if self.is_free() {
+                return;
+            }
+            spins = self.pause_at_door(rt, spins);
+        }
+    }
+
+    /// Whether no ticket is out.
+    fn is_free(&self) -> bool {
+        let served = self.table.shared.peek(SERVED);
+        self.table.shared.peek(NEXT) == served
+    }
+
+    /// Spins at first, and then sleeps until somebody leaves. Returns how often it has spun since it last slept.
+    fn pause_at_door<R: Wait>(&self, rt: &R, spins: u32) -> u32 {
+        if spins < SPINS {
+            hint::spin_loop();
+            return spins + 1;
+        }
+        let key = self.bells.door.prepare_wait();
+        if !self.is_free() {
+            key.wait(rt);
+        }
+        0
     }
 
     fn draw(&self, seat: &mut Place<T>) -> u64
@@ -73,58 +103,43 @@ impl<T: Logged> Turnstile<T> {
     {
         let mut spins = 0;
         for _ in rt.forever() {
-            match self.look(seat, ticket) {
-                Ok(value) => return value,
-                Err(serving) => spins = self.pause(rt, spins, ticket, serving),
+            if let Some(value) = self.look(seat, ticket) {
+                return value;
             }
+            spins = self.pause_in_line(rt, spins, ticket);
         }
         unreachable!()
     }
 
-    /// The value, where the ticket is served. Else the ticket that is.
-    fn look(&self, seat: &mut Place<T>, ticket: u64) -> Result<T, u64>
+    /// The value, where the ticket is served.
+    fn look(&self, seat: &mut Place<T>, ticket: u64) -> Option<T>
         requires table { IsSeatOf self.now seat.old }
         requires waits { (seat.old.me.0.stage ≡ Waiting ticket) × (seat.old.me.1 ≡ []) }
         ensures same { IsSameSeat seat.old seat.new }
-        ensures enters { IfOk result (λ x. seat.new.me ≡ (entered seat.old.me.0 (sight_of T.log (marked T.mark T.trail) x), (0, None) ∷ [])) }
-        ensures found { IfOk result (λ x. IsFound T.log T.origin T.IsSound (marked T.mark T.trail) self.now.table.shared.key seat.old.me.0 x) }
-        ensures waits { OnErr result (seat.new.me ≡ seat.old.me) }
+        ensures enters { IfSome result (λ x. seat.new.me ≡ (entered seat.old.me.0 (sight_of T.log (marked T.mark T.trail) x), (0, None) ∷ [])) }
+        ensures found { IfSome result (λ x. IsFound T.log T.origin T.IsSound (marked T.mark T.trail) self.now.table.shared.key seat.old.me.0 x) }
+        ensures waits { IsNone result → seat.new.me ≡ seat.old.me }
     {
         let table = &self.table.shared;
         let serving = table.load::<Look>(seat, SERVED);
         if serving != ticket {
-            return Err(serving);
+            return None;
         }
         let value = table.exchange(seat, SLOT, None);
-        Ok(value.unwrap())
+        Some(value.unwrap())
     }
 
-    /// Spins at first, and then sleeps by the ticket's bell. Returns how often it has spun since it last slept.
-    fn pause<R: Wait>(&self, rt: &R, spins: u32, ticket: u64, serving: u64) -> u32 {
-        if spins < most_spins(ticket, serving) {
+    /// Spins at first, and then sleeps until somebody leaves. It looks once more before: who leaves after that look rings
+    /// for a thread that is found waiting. Returns how often it has spun since it last slept.
+    fn pause_in_line<R: Wait>(&self, rt: &R, spins: u32, ticket: u64) -> u32 {
+        if spins < SPINS {
             hint::spin_loop();
-            spins + 1
-        } else {
-            self.sleep(rt, ticket);
-            0
+            return spins + 1;
         }
-    }
-
-    /// Sleeps until the ticket's bell rings. It looks once more before: a ticket that is served after that look rings
-    /// for a thread that it finds waiting.
-    fn sleep<R: Wait>(&self, rt: &R, ticket: u64) {
-        let key = self.bells.of(ticket).prepare_wait();
+        let key = self.bells.line.prepare_wait();
         if self.table.shared.peek(SERVED) != ticket {
             key.wait(rt);
         }
-    }
-}
-
-/// How often a thread with this ticket looks before it sleeps.
-fn most_spins(ticket: u64, serving: u64) -> u32 {
-    if ticket.wrapping_sub(serving) == 1 {
-        NEXT_SPINS
-    } else {
-        LATER_SPINS
+        0
     }
 }

@@ -13,7 +13,7 @@ use crate::pass::{Held, Pass, Place};
 use crate::plays::Advance;
 
 impl<T: Logged> Turnstile<T> {
-    /// Gives the value back, and wakes who is next. It takes no memory.
+    /// Gives the value back, and wakes who waits. It takes no memory.
     pub fn leave(&self, pass: &mut Pass<T>, held: Held<T>)
         requires pass { IsPassOf self.now pass.old }
         requires inside { IsInside pass.old }
@@ -46,14 +46,7 @@ impl<T: Logged> Turnstile<T> {
         let table = &self.table.shared;
         let before = table.exchange(seat, SLOT, Some(value));
         let None = before else { unreachable!() };
-        let served = table.fetch_add::<Advance>(seat, SERVED, 1);
-        self.call_in(served.wrapping_add(1));
-    }
-
-    /// Wakes the thread whose ticket is served, and the next one, which will then spin until its turn comes. Threads whose
-    /// tickets share these bells wake as well, and sleep again.
-    fn call_in(&self, serving: u64) {
-        self.bells.of(serving).notify_all();
-        self.bells.of(serving.wrapping_add(1)).notify_all();
+        table.fetch_add::<Advance>(seat, SERVED, 1);
+        self.bells.ring();
     }
 }

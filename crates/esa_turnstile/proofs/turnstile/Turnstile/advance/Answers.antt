@@ -5,8 +5,8 @@ use Rattle.esa_turnstile.proofs.Advances.{advances}
 use Rattle.esa_turnstile.specs.Marks.{IsBelow, marked}
 use Rattle.esa_turnstile.proofs.turnstile.Turnstile.advance.Goals as goal
 
-pub fetch_add-served-requires : goal.fetch_add-served-requires
-fetch_add-served-requires g c =
+pub fetch_add-requires : goal.fetch_add-requires
+fetch_add-requires g c =
     let e = c.exchange-before.ensures.3 in let x = c.args.value in let old = c.args.seat.now.me.0 in let new = c.exchange-before.new.seat.me.0 in
     let view = ap (λ m. m.0) e in (
       search rules,
